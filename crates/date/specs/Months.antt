@@ -1,0 +1,171 @@
+-- The rows of month lengths: which month and day of it a day of the year is.
+-- Assumes nothing.
+use Prim.Native.Nat.{ℕ, zero, suc, _+_, _-_, _*_, _≤_, _<_}
+use mathlib.Core.Path.{_≡_, refl, ap, sym}
+use mathlib.Core.Bool.{Bool, true, false, _&&_, false≢true}
+use mathlib.Core.List.{List, [], _∷_}
+use native.Mathlib.Omega.{arith}
+use native.Mathlib.Numerals.{add-one}
+use native.Mathlib.Nat.{zero-add}
+use lib.Dec.{leb, ltb}
+use lib.ListN.{getD, length}
+use borrow.Author.Tests.{lt-ltb, le-ltb, leb-true, ltb-true, ltb-false}
+use Rattle.date.specs.Civil.{pickN, leap, rowOf, monthLength, sumTo, monthIn, dayIn, placeOf}
+use Rattle.date.specs.declared.civil.Place.{Place}
+
+pub sumTo-suc : (xs : List ℕ) (k : ℕ) → k < length xs → sumTo xs (suc k) ≡ sumTo xs k + getD xs k 0
+unfolding sumTo
+sumTo-suc [] k h = omega arith
+sumTo-suc (l ∷ []) zero h = omega arith
+sumTo-suc (l ∷ (l′ ∷ ls)) zero h = omega arith
+sumTo-suc (l ∷ ls) (suc k) h = omega (arith, sumTo-suc ls k (omega arith))
+
+back : (l s j : ℕ) → l + s + j - l ≡ s + j
+back l s j = omega arith
+
+-- day j of month m, both from 0, is where the row puts it
+pub month-at : (xs : List ℕ) (m j : ℕ) → m < length xs → j < getD xs m 0 → monthIn xs (sumTo xs m + j) ≡ m
+unfolding sumTo monthIn
+month-at [] m j h i = omega arith
+month-at (l ∷ ls) zero j h i = simp (zero-add, lt-ltb j l i)
+month-at (l ∷ ls) (suc m) j h i =
+    rw (le-ltb (l + sumTo ls m + j) l (omega arith), back) (ap suc (month-at ls m j (omega arith) i))
+
+pub day-at : (xs : List ℕ) (m j : ℕ) → m < length xs → j < getD xs m 0 → dayIn xs (sumTo xs m + j) ≡ j
+unfolding sumTo dayIn
+day-at [] m j h i = omega arith
+day-at (l ∷ ls) zero j h i = simp (zero-add, lt-ltb j l i)
+day-at (l ∷ ls) (suc m) j h i =
+    rw (le-ltb (l + sumTo ls m + j) l (omega arith), back) (day-at ls m j (omega arith) i)
+
+-- a day of a row has a place in it
+pub record Placed (xs : List ℕ) (j m d : ℕ) : Type 0 where
+  pub month : m < length xs
+  pub day : d < getD xs m 0
+  pub sum : sumTo xs m + d ≡ j
+
+placed-go : (l : ℕ) (ls : List ℕ) (j : ℕ) (t : Bool) → ltb j l ≡ t → (l ≤ j → Placed ls (j - l) (monthIn ls (j - l)) (dayIn ls (j - l))) → Placed (l ∷ ls) j (pickN t 0 (suc (monthIn ls (j - l)))) (pickN t j (dayIn ls (j - l)))
+unfolding sumTo
+placed-go l ls j true e f = record { month = omega arith; day = ltb-true j l e; sum = omega arith }
+placed-go l ls j false e f =
+    let g = f (ltb-false j l e) in
+    record { month = omega (arith, g .month); day = g .day; sum = omega (arith, g .sum, ltb-false j l e) }
+
+pub placed : (xs : List ℕ) (j : ℕ) → j < sumTo xs (length xs) → Placed xs j (monthIn xs j) (dayIn xs j)
+unfolding sumTo monthIn dayIn
+placed [] j h = omega arith
+placed (l ∷ ls) j h = placed-go l ls j (ltb j l) refl (λ g. placed ls (j - l) (omega arith))
+
+both-left : (a b : Bool) → (a && b) ≡ true → a ≡ true
+both-left true b t = refl
+both-left false b t = t
+
+both-right : (a b : Bool) → (a && b) ≡ true → b ≡ true
+both-right true b t = t
+both-right false b t = absurd (false≢true t)
+
+-- ---- the two rows
+allLe : ℕ → List ℕ → Bool
+allLe b [] = true
+allLe b (x ∷ xs) = leb x b && allLe b xs
+
+all-le : (b : ℕ) (xs : List ℕ) → allLe b xs ≡ true → (m : ℕ) → getD xs m 0 ≤ b
+unfolding allLe
+all-le b [] t m = omega arith
+all-le b (x ∷ xs) t zero = leb-true x b (both-left (leb x b) (allLe b xs) t)
+all-le b (x ∷ xs) t (suc m) = all-le b xs (both-right (leb x b) (allLe b xs) t) m
+
+pub row-le : (l : Bool) (m : ℕ) → getD (rowOf l) m 0 ≤ 31
+unfolding allLe rowOf
+row-le true m = all-le 31 (rowOf true) refl m
+row-le false m = all-le 31 (rowOf false) refl m
+
+past : (xs : List ℕ) (m : ℕ) → length xs ≤ m → getD xs m 0 ≡ 0
+past [] m h = refl
+past (x ∷ xs) zero h = omega arith
+past (x ∷ xs) (suc m) h = past xs m (omega arith)
+
+pub row-past : (l : Bool) (m : ℕ) → 12 ≤ m → getD (rowOf l) m 0 ≡ 0
+unfolding rowOf
+row-past true m h = past (rowOf true) m h
+row-past false m h = past (rowOf false) m h
+
+pub sum-none : (l : Bool) → sumTo (rowOf l) 0 ≡ 0
+unfolding sumTo rowOf
+sum-none true = refl
+sum-none false = refl
+
+-- one month more
+pub sum-more : (l : Bool) (k : ℕ) → k < 12 → sumTo (rowOf l) (k + 1) ≡ sumTo (rowOf l) k + getD (rowOf l) k 0
+unfolding rowOf
+sum-more true k h = rw add-one (sumTo-suc (rowOf true) k h)
+sum-more false k h = rw add-one (sumTo-suc (rowOf false) k h)
+
+-- eleven months, and the whole year
+pub sum-eleven : (l : Bool) → (sumTo (rowOf l) 11 ≡ pickN l 335 334) × (getD (rowOf l) 11 0 ≡ 31)
+unfolding sumTo rowOf
+sum-eleven true = (refl, refl)
+sum-eleven false = (refl, refl)
+
+pub row-length : (l : Bool) → length (rowOf l) ≡ 12
+unfolding rowOf
+row-length true = refl
+row-length false = refl
+
+pub place-at : (l : Bool) (m d j : ℕ) → m < 12 → d < getD (rowOf l) m 0 → sumTo (rowOf l) m + d ≡ j → _≡_ {A = Place} (record { month = m; day = d }) (placeOf l j)
+unfolding placeOf
+place-at l m d j h i e =
+    let h′ : m < length (rowOf l) = rw row-length h in
+    rw (← e) (λ k. record { month = sym (month-at (rowOf l) m d h′ i) k; day = sym (day-at (rowOf l) m d h′ i) k })
+
+-- what is left after eleven months is a day of December
+december : (l : Bool) (d j : ℕ) → sumTo (rowOf l) 11 + d ≡ j → j < pickN l 366 365 → d < getD (rowOf l) 11 0
+december true d j e h = omega (arith, sum-eleven true)
+december false d j e h = omega (arith, sum-eleven false)
+
+pub place-last : (l : Bool) (m d j : ℕ) → m ≡ 11 → sumTo (rowOf l) m + d ≡ j → j < pickN l 366 365 → _≡_ {A = Place} (record { month = m; day = d }) (placeOf l j)
+place-last l m d j q e h = place-at l m d j (omega arith) (rw q (december l d j (rw q at e) h)) e
+
+-- a day of a month of a row is a day of the row
+pub sum-in : (xs : List ℕ) (m d : ℕ) → m < length xs → d < getD xs m 0 → sumTo xs m + d < sumTo xs (length xs)
+unfolding sumTo
+sum-in [] m d h i = omega arith
+sum-in (l ∷ ls) zero d h i = omega arith
+sum-in (l ∷ ls) (suc m) d h i = omega (arith, sum-in ls m d (omega arith) i)
+
+pub year-sum : (l : Bool) → sumTo (rowOf l) (length (rowOf l)) ≡ pickN l 366 365
+unfolding sumTo rowOf
+year-sum true = refl
+year-sum false = refl
+
+pub place-ok : (l : Bool) (j : ℕ) → j < pickN l 366 365 → Placed (rowOf l) j (placeOf l j .month) (placeOf l j .day)
+unfolding placeOf
+place-ok l j h = placed (rowOf l) j (rw (year-sum l) h)
+
+pub place-small : (l : Bool) (j : ℕ) → j < pickN l 366 365 → (placeOf l j .month < 12) × (placeOf l j .day < 31)
+place-small l j h =
+    let p = place-ok l j h in
+    (rw (← row-length l) (p .month), omega (arith, p .day, row-le l (placeOf l j .month)))
+
+-- the same of a place that a call gave
+pub small : (x : Place) (l : Bool) (j : ℕ) → x ≡ placeOf l j → j < pickN l 366 365 → (x .month < 12) × (x .day < 31)
+small x l j e h = rw e (place-small l j h)
+
+sum-le-at : (xs : List ℕ) → allLe 31 xs ≡ true → (k : ℕ) → sumTo xs k ≤ 31 * k
+unfolding allLe sumTo
+sum-le-at [] t k = omega arith
+sum-le-at (x ∷ xs) t zero = omega arith
+sum-le-at (x ∷ xs) t (suc k) =
+    omega (arith, leb-true x 31 (both-left (leb x 31) (allLe 31 xs) t), sum-le-at xs (both-right (leb x 31) (allLe 31 xs) t) k)
+
+pub sum-le : (l : Bool) (k : ℕ) → sumTo (rowOf l) k ≤ 31 * k
+unfolding allLe rowOf
+sum-le true k = sum-le-at (rowOf true) refl k
+sum-le false k = sum-le-at (rowOf false) refl k
+
+pub sum-small : (l : Bool) (k : ℕ) → k < 12 → sumTo (rowOf l) k ≤ 341
+sum-small l k h = omega (arith, sum-le l k)
+
+pub length-le : (y m : ℕ) → monthLength y m ≤ 31
+unfolding monthLength
+length-le y m = row-le (leap y) (m - 1)

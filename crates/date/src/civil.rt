@@ -1,0 +1,145 @@
+// Years, months and days of a day number, by ISO 8601 (proleptic Gregorian).
+ghost use mathlib.Core.Path.{_≡_};
+ghost use Prim.Native.Nat.{_<_, _≤_};
+ghost use lib.ListN.{getD};
+ghost use Rattle.date.specs.Civil.{leap, rowOf, monthLength, gone, yearsGone, sumTo, placeOf, fieldsAt, fieldsOf, dayNumber, weekdayOf, daysUntil, pickN};
+use crate::Fields;
+
+// The days of the months, in a common year and in a leap year.
+const MONTHS: [[u8; 12]; 2] = [
+    [31, 28, 31, 30, 31, 30, 31, 31, 30, 31, 30, 31],
+    [31, 29, 31, 30, 31, 30, 31, 31, 30, 31, 30, 31],
+];
+
+// A month and a day of it, both from 0.
+pub struct Place {
+    pub month: u32,
+    pub day: u32,
+}
+
+pub fn is_leap(year: u32) -> bool
+    ensures { λ r. ⌜ r ≡ leap year ⌝ }
+{
+    year % 4 == 0 && (year % 100 != 0 || year % 400 == 0)
+}
+
+// The days of a month, from 0; there are none in a month that is not there.
+fn length_at(leaps: bool, month: usize) -> u32
+    ensures { λ r. ⌜ r ≡ getD (rowOf leaps) month 0 ⌝ }
+{
+    if month < 12 {
+        let row = leaps as usize;
+        MONTHS[row][month] as u32
+    } else {
+        0
+    }
+}
+
+pub fn month_length(year: u32, month: u32) -> u32
+    ensures { λ r. ⌜ r ≡ monthLength year month ⌝ }
+{
+    if month == 0 {
+        length_at(is_leap(year), 0)
+    } else {
+        length_at(is_leap(year), (month - 1) as usize)
+    }
+}
+
+// The days of the first p years.
+fn days_gone(p: u64) -> u64
+    requires { ⌜ p < 4294967296 ⌝ }
+    ensures { λ r. ⌜ r ≡ gone p ⌝ }
+{
+    365 * p + p / 4 + p / 400 - p / 100
+}
+
+// The whole years before day z, from 0: one division, and one step where it falls short.
+fn years_gone(z: u64) -> u64
+    requires { ⌜ z < 4294967296 ⌝ }
+    ensures { λ r. ⌜ r ≡ yearsGone z ⌝ }
+{
+    let g = z * 400 / 146097;
+    if days_gone(g + 1) <= z { g + 1 } else { g }
+}
+
+// The days of the first m months.
+fn days_before(leaps: bool, m: usize) -> u32
+    requires { ⌜ m < 12 ⌝ }
+    ensures { λ r. ⌜ r ≡ sumTo (rowOf leaps) m ⌝ }
+{
+    let mut sum: u32 = 0;
+    for k in 0..m {
+        sum += length_at(leaps, k);
+    }
+    sum
+}
+
+// The month and the day of it that a day of the year, from 0, is.
+fn place_in(leaps: bool, j: u32) -> Place
+    requires { ⌜ j < pickN leaps 366 365 ⌝ }
+    ensures { λ r. ⌜ r ≡ placeOf leaps j ⌝ }
+{
+    let mut m: u32 = 0;
+    let mut left = j;
+    while m < 11 {
+        let k = length_at(leaps, m as usize);
+        if left < k {
+            break;
+        }
+        left -= k;
+        m += 1;
+    }
+    Place {
+        month: m,
+        day: left,
+    }
+}
+
+// Year, month and day of day z, from 0.
+fn fields_at(z: u32) -> Fields
+    ensures { λ r. ⌜ r ≡ fieldsAt z ⌝ }
+{
+    let p = years_gone(z as u64);
+    let y = (p + 1) as u32;
+    let j = (z as u64 - days_gone(p)) as u32;
+    let at = place_in(is_leap(y), j);
+    Fields {
+        year: y,
+        month: at.month + 1,
+        day: at.day + 1,
+    }
+}
+
+// Year, month and day of a day number; those of day 1 for 0.
+pub fn fields_of(n: u32) -> Fields
+    ensures { λ r. ⌜ r ≡ fieldsOf n ⌝ }
+{
+    if n == 0 {
+        fields_at(0)
+    } else {
+        fields_at(n - 1)
+    }
+}
+
+// The day number of a year, month and day that are there.
+pub(crate) fn day_number(year: u32, month: u32, day: u32) -> u32
+    requires { ⌜ (1 ≤ year) × (year < 2400) × (1 ≤ month) × (month ≤ 12) × (day ≤ 31) ⌝ }
+    ensures { λ r. ⌜ r ≡ dayNumber year month day ⌝ }
+{
+    days_gone((year - 1) as u64) as u32 + days_before(is_leap(year), (month - 1) as usize) + day
+}
+
+// 1 is Monday and 7 Sunday.
+pub fn weekday_of(n: u32) -> u32
+    ensures { λ r. ⌜ r ≡ weekdayOf n ⌝ }
+{
+    ((n as u64 + 6) % 7 + 1) as u32
+}
+
+// How many days after day n the next day with that weekday is, 0 if n has it.
+pub(crate) fn days_until(n: u32, weekday: u32) -> u32
+    requires { ⌜ weekday ≤ 7 ⌝ }
+    ensures { λ r. ⌜ r ≡ daysUntil n weekday ⌝ }
+{
+    (weekday + 7 - weekday_of(n)) % 7
+}

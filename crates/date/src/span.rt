@@ -1,0 +1,97 @@
+// Days from 1800-01-01 to 2399-12-31: what the crates above use for dates that may lie beyond the book.
+ghost use mathlib.Core.Path.{_≡_};
+ghost use Prim.Native.Nat.{_+_, _<_, min};
+ghost use Rattle.date.specs.Date.{dated, withinSpan, inMonth, lastOfMonth, step, shiftDays, shiftMonths, shifted};
+use crate::Date;
+use crate::Dated;
+use crate::civil;
+use period::Unit;
+
+// The day, or refusal 2 where it lies outside.
+pub fn within(n: u64) -> Dated
+    ensures { λ r. ⌜ dated r ≡ withinSpan n ⌝ }
+{
+    if n < 657072 {
+        return Dated::Refused(refusal::BOOK);
+    }
+    if 876216 < n {
+        return Dated::Refused(refusal::BOOK);
+    }
+    Dated::Day(Date { day: n as u32 })
+}
+
+fn least(a: u32, b: u32) -> u32
+    ensures { λ r. ⌜ r ≡ min a b ⌝ }
+{
+    if a < b { a } else { b }
+}
+
+// The day of a month counted as 12 * year + month - 1, or the month's last day where it is shorter.
+pub fn in_month(t: u64, day: u32) -> Dated
+    ensures { λ r. ⌜ dated r ≡ inMonth t day ⌝ }
+{
+    if 28799 < t {
+        return Dated::Refused(refusal::BOOK);
+    }
+    let year = (t / 12) as u32;
+    let month = (t % 12) as u32 + 1;
+    Date::make(year, month, least(day, civil::month_length(year, month)))
+}
+
+pub fn last_of_month(n: u32) -> Dated
+    ensures { λ r. ⌜ dated r ≡ lastOfMonth n ⌝ }
+{
+    let f = civil::fields_of(n);
+    let year = f.year;
+    let month = f.month;
+    Date::make(year, month, civil::month_length(year, month))
+}
+
+// k further on, or back; what lies before 0 is 0.
+fn step_by(back: bool, n: u64, k: u64) -> u64
+    requires { ⌜ n + k < 18446744073709551616 ⌝ }
+    ensures { λ r. ⌜ r ≡ step back n k ⌝ }
+{
+    if back {
+        if n < k { 0 } else { n - k }
+    } else {
+        n + k
+    }
+}
+
+// The day k days after or before day n.
+fn shift_days(n: u32, back: bool, k: u64) -> Dated
+    requires { ⌜ k < 1099511627776 ⌝ }
+    ensures { λ r. ⌜ dated r ≡ shiftDays n back k ⌝ }
+{
+    within(step_by(back, n as u64, k))
+}
+
+// The same day k months after or before day n, or the last day of a shorter month.
+fn shift_months(n: u32, back: bool, k: u64) -> Dated
+    requires { ⌜ k < 1099511627776 ⌝ }
+    ensures { λ r. ⌜ dated r ≡ shiftMonths n back k ⌝ }
+{
+    let f = civil::fields_of(n);
+    let t = step_by(back, 12 * (f.year as u64) + (f.month as u64) - 1, k);
+    in_month(t, f.day)
+}
+
+pub(crate) fn shift(n: u32, back: bool, k: u64, unit: Unit) -> Dated
+    requires { ⌜ k < 4294967296 ⌝ }
+    ensures { λ r. ⌜ dated r ≡ shifted n back k unit ⌝ }
+{
+    match unit {
+        Unit::Days => shift_days(n, back, k),
+        Unit::Weeks => shift_days(n, back, 7 * k),
+        Unit::Months => shift_months(n, back, k),
+        Unit::Years => shift_months(n, back, 12 * k),
+    }
+}
+
+// The day k units after or before day n.
+pub fn shift_by(n: u32, back: bool, k: u32, unit: Unit) -> Dated
+    ensures { λ r. ⌜ dated r ≡ shifted n back k unit ⌝ }
+{
+    shift(n, back, k as u64, unit)
+}

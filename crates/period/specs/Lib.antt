@@ -1,0 +1,3 @@
+pub mod Period
+pub mod Signed
+pub mod Laws

@@ -1,0 +1,14 @@
+-- `refusal::is_refusal` meets its contract.
+-- Assumes nothing.
+use borrow.Author.Tests.{le-leb, lt-leb}
+use Rattle.refusal.proofs.is_refusal.Statement.{statement}
+use Rattle.refusal.proofs.is_refusal.Tie as tie
+
+returns : tie.Need-returns
+returns c = simp (le-leb _ _ (c .if1 .taken))
+
+returns-2 : tie.Need-returns-2
+returns-2 c = simp (lt-leb _ _ (c .if1 .left))
+
+pub is-refusal-spec : {M : Type 1} → statement M
+is-refusal-spec = tie.close (tie.spec returns returns-2)
