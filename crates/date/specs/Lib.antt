@@ -5,3 +5,6 @@ pub mod Months
 pub mod Round
 pub mod Made
 pub mod Moves
+pub mod Order
+pub mod Weekdays
+pub mod Sums

@@ -52,3 +52,14 @@ module _ {A B : Type 0} where
   pub then-refused : (x : Answer A) (n : ℕ) (f : A → Answer B) → x ≡ refused n → refused n ≡ then x f
   unfolding then
   then-refused x n f e = rw e refl
+
+-- what a step that gives something went through
+pub record Stepped {A B : Type 0} (x : Answer A) (f : A → Answer B) (b : B) : Type 0 where
+  pub value : A
+  pub from : x ≡ given value
+  pub to : f value ≡ given b
+
+pub then-stepped : {A B : Type 0} (x : Answer A) (f : A → Answer B) (b : B) → then x f ≡ given b → Stepped x f b
+unfolding then
+then-stepped (given a) f b h = record { value = a; from = refl; to = h }
+then-stepped (refused n) f b h = let z : _≡_ {A = ℕ} 0 1 = cc in let bad : ⊥ = omega arith in absurd bad
