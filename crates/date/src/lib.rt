@@ -2,13 +2,12 @@
 ghost use mathlib.Core.Path.{_≡_};
 ghost use Rattle.date.specs.Date.{dated, split, numbered, counted, compared, inBook, makeOf, fieldsIn, weekdayIn, monthEndOf, advanceOf, nextWeekdayOf, nthWeekdayOf, differenceOf, compareOf};
 use period::Unit;
+use period::sign;
 
 // Years, months and days of a day number.
 pub mod civil;
 // Days from 1800 to 2399, for the crates above: dates may lie beyond the book.
 pub mod span;
-// The sign and the size of a count.
-mod count;
 
 pub struct Fields {
     pub year: u32,
@@ -47,8 +46,8 @@ pub enum Compared {
     Refused(u8),
 }
 
-// A date that is given to a customer's function lies in the book.
-fn in_book(n: u32) -> bool
+// Whether a day lies in the book, as a date that is given to a customer's function must.
+pub fn in_book(n: u32) -> bool
     ensures { λ r. ⌜ r ≡ inBook n ⌝ }
 {
     Date::FIRST.day <= n && n <= Date::LAST.day
@@ -125,7 +124,7 @@ impl Date {
     {
         let from = self.day;
         if in_book(from) {
-            span::shift(from, count::is_negative(n), count::size(n), unit)
+            span::shift_by(from, sign::is_negative(n), sign::size(n), unit)
         } else {
             Dated::Refused(refusal::BOOK)
         }

@@ -77,7 +77,14 @@ fn shift_months(n: u32, back: bool, k: u64) -> Dated
     in_month(t, f.day)
 }
 
-pub(crate) fn shift(n: u32, back: bool, k: u64, unit: Unit) -> Dated
+// The day of the month k months after or before month t, or that month's last day where it is shorter.
+pub fn months_from(t: u32, back: bool, k: u32, day: u32) -> Dated
+    ensures { λ r. ⌜ dated r ≡ inMonth (step back t k) day ⌝ }
+{
+    in_month(step_by(back, t as u64, k as u64), day)
+}
+
+fn shift(n: u32, back: bool, k: u64, unit: Unit) -> Dated
     requires { ⌜ k < 4294967296 ⌝ }
     ensures { λ r. ⌜ dated r ≡ shifted n back k unit ⌝ }
 {

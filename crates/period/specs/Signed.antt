@@ -69,7 +69,7 @@ abs-fits z s = record { sfits = omega (arith, abs-small z s) }
 pub abs-back : (z : ℤ) → SFits w32 z → toZ w64 (ofZ w64 (pos (natAbs z))) ≡ pos (natAbs z)
 abs-back z s = toZ-ofZ {w = w64} {z = pos (natAbs z)} (abs-fits z s)
 
-pub abs-fits-u : (z : ℤ) → SFits w32 z → Fits w64 (natAbs z)
+pub abs-fits-u : (z : ℤ) → SFits w32 z → Fits w32 (natAbs z)
 abs-fits-u z s = record { fits = omega (arith, abs-small z s) }
 
 -- the negation of a negative number is its size

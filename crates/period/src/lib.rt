@@ -2,6 +2,9 @@
 ghost use mathlib.Core.Path.{_≡_};
 ghost use Rattle.period.specs.Period.{product, timesOf};
 
+// The sign and the size of a count.
+pub mod sign;
+
 pub enum Unit {
     Days,
     Weeks,

@@ -1,18 +1,17 @@
 -- `date::Date::advance` meets its contract.
 -- Assumes nothing.
-use native.Mathlib.Omega.{arith}
 use Rattle.refusal.specs.Laws.{passed, failed}
-use Rattle.period.specs.Signed.{same32, abs-small}
+use Rattle.period.specs.Signed.{same32}
 use Rattle.date.specs.Date.{dated, advanceOf}
 use borrow.Author.Needs.{needs}
 use Rattle.date.proofs.Date.advance.Statement.{statement}
 use Rattle.date.proofs.Date.advance.Tie as tie
 use Rattle.date.proofs.Date.advance.Reads as reads
 use Rattle.date.proofs.Date.advance.Lts as lts
-use Rattle.date.proofs.count.is_negative.Reads as is-negative-reads
-use Rattle.date.proofs.count.size.Reads as size-reads
 use Rattle.date.proofs.in_book.Reads as in-book-reads
-use Rattle.date.proofs.span.shift.Reads as shift-reads
+use Rattle.date.proofs.span.shift_by.Reads as shift-by-reads
+use Rattle.period.proofs.sign.is_negative.Reads as is-negative-reads
+use Rattle.period.proofs.sign.size.Reads as size-reads
 
 in-book-requires : tie.Need-in-book-requires
 in-book-requires c κs = search needs
@@ -23,10 +22,8 @@ is-negative-requires c κs = search needs
 size-requires : tie.Need-size-requires
 size-requires c κs = search needs
 
-shift-requires : tie.Need-shift-requires
-shift-requires c κs =
-    let b = c .before .before .before .before in
-    omega (arith, rw (same32 _ (b .fits .n)) at (c .size .ensures), abs-small _ (b .fits .n))
+shift-by-requires : tie.Need-shift-by-requires
+shift-by-requires c κs = search needs
 
 returns : tie.Need-returns
 unfolding advanceOf
@@ -41,4 +38,10 @@ returns-2 c = failed _ _ _ _ (c .before .in-book .ensures) (c .if1 .left)
 pub advance-spec : {M : Type 1} → statement M
 advance-spec =
     tie.close
-    (tie.spec in-book-requires is-negative-requires size-requires shift-requires returns returns-2)
+    (tie.spec
+    in-book-requires
+    is-negative-requires
+    size-requires
+    shift-by-requires
+    returns
+    returns-2)

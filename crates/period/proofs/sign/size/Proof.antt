@@ -1,12 +1,12 @@
 use Rattle.period.specs.Signed.{abs-back, abs-fits, abs-fits-u, negated, same32, when-not}
 use native.Mathlib.Omega.{arith}
 use lib.Dec.{T}
 use lib.Signed.{nonNeg}
 use borrow.Author.Needs.{needs}
-use Rattle.date.proofs.count.size.Statement.{statement}
-use Rattle.date.proofs.count.size.Tie as tie
-use Rattle.date.proofs.count.size.Reads as reads
-use Rattle.date.proofs.count.size.Lts as lts
+use Rattle.period.proofs.sign.size.Statement.{statement}
+use Rattle.period.proofs.sign.size.Tie as tie
+use Rattle.period.proofs.sign.size.Reads as reads
+use Rattle.period.proofs.sign.size.Lts as lts
 
 cast-result : tie.Need-cast-result
 cast-result c = rw (same32 (c .before .args .n) (c .before .fits .n)) (record { sfits = omega (arith, c .before .fits .n .sfits) })

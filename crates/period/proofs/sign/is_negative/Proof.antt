@@ -1,9 +1,9 @@
--- `date::count::is_negative` meets its contract.
+-- `period::sign::is_negative` meets its contract.
 -- Assumes nothing.
 use mathlib.Core.Path.{_∙_}
 use Rattle.period.specs.Signed.{same32, negative-test}
-use Rattle.date.proofs.count.is_negative.Statement.{statement}
-use Rattle.date.proofs.count.is_negative.Tie as tie
+use Rattle.period.proofs.sign.is_negative.Statement.{statement}
+use Rattle.period.proofs.sign.is_negative.Tie as tie
 
 returns : tie.Need-returns
 returns c = rw (same32 (c .args .n) (c .fits .n)) (negative-test (c .args .n))
