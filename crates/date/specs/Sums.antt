@@ -17,16 +17,12 @@ written f = 10000 * f .year + 100 * f .month + f .day
 abbrev shown : Answer Fields → Answer ℕ
 shown a = then a (λ f. given (written f))
 
-days : _≡_ {A = List ℕ}
-    (dayNumber 1 1 1 ∷ dayNumber 1901 1 1 ∷ dayNumber 2199 12 31 ∷ dayNumber 1800 1 1 ∷ dayNumber 2399 12 31
-    ∷ written (fieldsOf 1) ∷ written (fieldsOf 657072) ∷ written (fieldsOf 876216) ∷ written (fieldsOf 730179) ∷ [])
-    (1 ∷ 693961 ∷ 803168 ∷ 657072 ∷ 876216 ∷ 10101 ∷ 18000101 ∷ 23991231 ∷ 20000229 ∷ [])
-unfolding leap rowOf monthLength gone guess yearsGone sumTo monthIn dayIn placeOf dayNumber fieldsAt
-days = refl
-
-answers : _≡_ {A = List (Answer ℕ)}
+sums : _≡_ {A = List (Answer ℕ)}
+    -- day numbers and their dates: day 1, the ends of the book and of the span, a leap day of a leap century
+    (given (dayNumber 1 1 1) ∷ given (dayNumber 1901 1 1) ∷ given (dayNumber 2199 12 31) ∷ given (dayNumber 1800 1 1) ∷ given (dayNumber 2399 12 31)
+    ∷ given (written (fieldsOf 1)) ∷ given (written (fieldsOf 657072)) ∷ given (written (fieldsOf 876216)) ∷ given (written (fieldsOf 730179))
     -- leap centuries, months and days that are not there, years outside the span
-    (makeOf 1900 2 29 ∷ makeOf 2000 2 29 ∷ makeOf 2100 2 29 ∷ makeOf 2025 0 1 ∷ makeOf 2025 13 1 ∷ makeOf 2025 4 0 ∷ makeOf 2025 4 31
+    ∷ makeOf 1900 2 29 ∷ makeOf 2000 2 29 ∷ makeOf 2100 2 29 ∷ makeOf 2025 0 1 ∷ makeOf 2025 13 1 ∷ makeOf 2025 4 0 ∷ makeOf 2025 4 31
     ∷ makeOf 1799 12 31 ∷ makeOf 2400 1 1
     -- the ends of the book, and beyond
     ∷ shown (fieldsIn 0) ∷ shown (fieldsIn 693960) ∷ shown (fieldsIn 693961) ∷ shown (fieldsIn 803168) ∷ shown (fieldsIn 803169)
@@ -38,7 +34,9 @@ answers : _≡_ {A = List (Answer ℕ)}
     -- the third Wednesday of March 2025, a fifth and a sixth Monday, weekdays that are none
     ∷ nthWeekdayOf 3 3 3 2025 ∷ nthWeekdayOf 5 1 3 2025 ∷ nthWeekdayOf 5 1 4 2025 ∷ nthWeekdayOf 6 1 3 2025 ∷ nthWeekdayOf 0 1 3 2025 ∷ nthWeekdayOf 1 0 3 2025
     ∷ nthWeekdayOf 1 8 3 2025 ∷ nextWeekdayOf 739402 6 ∷ nextWeekdayOf 739402 5 ∷ nextWeekdayOf 739402 8 ∷ nextWeekdayOf 803168 1 ∷ [])
-    (refused 2 ∷ given 730179 ∷ refused 2 ∷ refused 2 ∷ refused 2 ∷ refused 2 ∷ refused 2
+    (given 1 ∷ given 693961 ∷ given 803168 ∷ given 657072 ∷ given 876216
+    ∷ given 10101 ∷ given 18000101 ∷ given 23991231 ∷ given 20000229
+    ∷ refused 2 ∷ given 730179 ∷ refused 2 ∷ refused 2 ∷ refused 2 ∷ refused 2 ∷ refused 2
     ∷ refused 2 ∷ refused 2
     ∷ refused 2 ∷ refused 2 ∷ given 19010101 ∷ given 21991231 ∷ refused 2
     ∷ refused 2 ∷ given 6
@@ -48,4 +46,4 @@ answers : _≡_ {A = List (Answer ℕ)}
     ∷ given 739329 ∷ given 739341 ∷ refused 2 ∷ refused 2 ∷ refused 2 ∷ refused 2
     ∷ refused 2 ∷ given 739402 ∷ given 739408 ∷ refused 2 ∷ given 803174 ∷ [])
 unfolding leap rowOf monthLength gone guess yearsGone sumTo monthIn dayIn placeOf dayNumber fieldsAt weekdayOf daysUntil need then inBook withinSpan makeOf fieldsIn weekdayIn lastOfMonth monthEndOf monthIndex inMonth step shiftDays shiftMonths shifted advanceOf nextWeekdayOf nthWeekdayOf
-answers = refl
+sums = refl

@@ -1,0 +1,5 @@
+pub mod Checks
+pub mod Places
+pub mod Members
+pub mod Days
+pub mod Ways

@@ -1,0 +1,177 @@
+-- A law for each way through the functions over the search, in the code's terms.
+-- Assumes nothing.
+use Prim.Native.Nat.{ℕ, suc, _-_, _%_, _≤_, _<_}
+use mathlib.Core.Path.{_≡_, refl, ap, sym, _∙_}
+use mathlib.Core.Bool.{Bool, true, false, not}
+use mathlib.Core.List.{List}
+use native.Mathlib.Omega.{arith}
+use lib.ListN.{length, getD}
+use lib.Dec.{eqb, leb}
+use borrow.Author.Tests.{leb-true, eqb-true, eqb-false, eq-eqb, ne-eqb}
+use mathlib.Core.Logic.{⊎-elim}
+use native.Mathlib.Nat.{eq-or-lt-of-le}
+use Rattle.refusal.specs.Answer.{Answer, given, refused, need, then, BOOK, TENOR}
+use Rattle.refusal.specs.Laws.{holds, passed, failed, need-given, then-given, then-refused, never-both, one-given}
+use lib.IntN.{ℤ, natAbs}
+use Rattle.period.specs.Signed.{isNegative}
+use Rattle.period.specs.declared.Unit.{Unit}
+use Rattle.date.specs.declared.Date.{Date}
+use Rattle.date.specs.declared.Dated.{Dated}
+use Rattle.date.specs.declared.Dated.the-variants.{Day, Refused}
+use Rattle.date.specs.Date.{dated, step, withinSpan}
+use Rattle.date.specs.Made.{given-day, refused-day}
+use Rattle.calendar.specs.declared.Convention.{Convention}
+use Rattle.calendar.specs.Open.{weeklyClosed, isOpen, closedOk, calendarOk}
+use Rattle.calendar.specs.Kept.{both}
+use Rattle.calendar.specs.Places.{LowerBound}
+use Rattle.calendar.specs.Adjust.{inSpan, firstOpen, found, sameMonth, unlessLeft, modified, adjusted, towards, openSteps, advanced}
+use Rattle.calendar.specs.Calendar.{tenorOk}
+use Rattle.calendar.specs.Search.{span-need}
+use Rattle.calendar.specs.Told.{ok-closed}
+use Rattle.calendar.proofs.Members.{present, between, above-from, above-end, shut-week, shut-listed, is-open}
+
+-- ---- rows of the table
+module _ {A B : Type 0} where
+  need-then : (n : ℕ) (b : Bool) (x : Answer A) (f : A → Answer B) → need n b (then x f) ≡ then (need n b x) f
+  unfolding need then
+  need-then n true x f = refl
+  need-then n false x f = refl
+
+  -- what a call handed on is what it answered
+  pub then-same : (x y : Answer A) (f : A → Answer B) (r : Answer B) → r ≡ then x f → x ≡ y → r ≡ then y f
+  then-same x y f r h e = h ∙ ap (λ (a : Answer A). then a f) e
+
+pub span-from : (t : Bool) (day : ℕ) → t ≡ inSpan day → t ≡ true → 657072 ≤ day
+unfolding inSpan
+span-from t day p e = leb-true 657072 day (both _ _ (sym p ∙ e) .0)
+
+pub span-to : (t : Bool) (day : ℕ) → t ≡ inSpan day → t ≡ true → day < 876217
+unfolding inSpan
+span-to t day p e = omega (arith, leb-true day 876216 (both (leb 657072 day) _ (sym p ∙ e) .1))
+
+pub within-given : (n m : ℕ) → withinSpan n ≡ given m → m ≡ n
+within-given n m h = sym (one-given _ n m refl (need-given BOOK (inSpan n) (given n) m (sym (span-need n) ∙ h) .1))
+
+within-refused-go : {A : Type 0} (b : Bool) (n k : ℕ) (x : Answer A) → need BOOK b (given n) ≡ refused k → refused k ≡ need BOOK b x
+unfolding need
+within-refused-go true n k x h = absurd (never-both _ n k refl h)
+within-refused-go false n k x h = let q : BOOK ≡ k = cc in ap refused (sym q)
+
+pub within-refused : {A : Type 0} (n k : ℕ) (x : Answer A) → withinSpan n ≡ refused k → refused k ≡ need BOOK (inSpan n) x
+within-refused n k x h = within-refused-go (inSpan n) n k x (sym (span-need n) ∙ h)
+
+-- ---- a single day
+module _ (mask : ℕ) (closed : List ℕ) (day : ℕ) {w : Bool} (p : w ≡ weeklyClosed mask day) where
+  pub single-week : w ≡ true → false ≡ isOpen mask closed day
+  single-week q = sym (shut-week mask closed day (sym p ∙ q))
+
+  single-by : (b : Bool) (at : ℕ) → w ≡ false → LowerBound closed day at → at < length closed → closedOk closed ≡ true → eqb (getD closed at 0) day ≡ b → not b ≡ isOpen mask closed day
+  single-by true at q l h ok e =
+      sym (shut-listed mask closed day (present closed at day h (eqb-true (getD closed at 0) day e)))
+  single-by false at q l h ok e =
+      let later : day < getD closed at 0 = strictly (getD closed at 0) (l .from ok at (omega arith) h) (eqb-false (getD closed at 0) day e) in
+      sym (is-open mask closed day (sym p ∙ q) (between closed at day (l .below ok) (above-from closed at day ok later)))
+    where
+      strictly : (x : ℕ) → day ≤ x → (x ≡ day → ⊥) → day < x
+      strictly x a b = ⊎-elim (λ (z : day ≡ x). absurd (b (sym z))) (λ (z : day < x). z) (eq-or-lt-of-le a)
+
+  pub single-at : (at : ℕ) → w ≡ false → LowerBound closed day at → at < length closed → closedOk closed ≡ true → not (eqb (getD closed at 0) day) ≡ isOpen mask closed day
+  single-at at q l h ok = single-by (eqb (getD closed at 0) day) at q l h ok refl
+
+  pub single-end : (at : ℕ) → w ≡ false → LowerBound closed day at → length closed ≤ at → closedOk closed ≡ true → true ≡ isOpen mask closed day
+  single-end at q l h ok =
+      sym (is-open mask closed day (sym p ∙ q) (between closed at day (l .below ok) (above-end closed at day h)))
+
+-- ---- a search in either direction, and the modified ones
+module _ (mask : ℕ) (closed : List ℕ) (back : Bool) (day : ℕ) (first : Dated) where
+  pub look-day : (x : Date) (r : Answer ℕ) (t : Bool) → t ≡ inSpan day → t ≡ true → dated first ≡ firstOpen mask closed back 31 day → first ≡ Day x → r ≡ withinSpan (x .day) → r ≡ need BOOK (inSpan day) (found mask closed back day)
+  unfolding found
+  look-day x r t p e h q w = passed _ _ _ _ _ p e (then-given _ (x .day) _ _ (given-day first x _ h q) w)
+
+  pub look-refused : (n : ℕ) (t : Bool) → t ≡ inSpan day → t ≡ true → dated first ≡ firstOpen mask closed back 31 day → first ≡ Refused n → refused n ≡ need BOOK (inSpan day) (found mask closed back day)
+  unfolding found
+  look-refused n t p e h q = passed _ _ _ _ _ p e (then-refused _ n _ (refused-day first n _ h q))
+
+  module _ (h : dated first ≡ need BOOK (inSpan day) (found mask closed back day)) where
+    pub modified-kept : (x : Date) (s : Bool) → first ≡ Day x → s ≡ sameMonth day (x .day) → s ≡ true → given (x .day) ≡ need BOOK (inSpan day) (modified mask closed back day)
+    unfolding modified unlessLeft
+    modified-kept x s q p e =
+        let g = need-given BOOK _ _ (x .day) (given-day first x _ h q) in
+        holds BOOK _ _ _ (g .0) (then-given _ (x .day) _ _ (g .1) (rw (sym p ∙ e)))
+
+    pub modified-left : (x : Date) (s : Bool) (r : Answer ℕ) → first ≡ Day x → s ≡ sameMonth day (x .day) → s ≡ false → r ≡ need BOOK (inSpan day) (found mask closed (not back) day) → r ≡ need BOOK (inSpan day) (modified mask closed back day)
+    unfolding modified unlessLeft need
+    modified-left x s r q p e z =
+        let g = need-given BOOK (inSpan day) _ (x .day) (given-day first x _ h q) in
+        let other : r ≡ found mask closed (not back) day = rw (g .0) at z in
+        holds BOOK _ _ _ (g .0) (then-given _ (x .day) _ _ (g .1) (rw (sym p ∙ e) other))
+
+    pub modified-refused : (n : ℕ) → first ≡ Refused n → refused n ≡ need BOOK (inSpan day) (modified mask closed back day)
+    unfolding modified
+    modified-refused n q = then-refused _ n _ (refused-day first n _ h q) ∙ sym (need-then BOOK (inSpan day) _ _)
+
+-- ---- the neighbouring day
+module _ (mask : ℕ) (closed : List ℕ) (convention : Convention) (n : ℕ) (beside : Dated) (h : dated beside ≡ withinSpan n) where
+  pub beside-day : (x : Date) (r : Answer ℕ) → beside ≡ Day x → r ≡ adjusted mask closed convention (x .day) → r ≡ adjusted mask closed convention n
+  beside-day x r q w = w ∙ ap (adjusted mask closed convention) (within-given n (x .day) (given-day beside x _ h q))
+
+  pub beside-refused : (k : ℕ) → beside ≡ Refused k → refused k ≡ adjusted mask closed convention n
+  unfolding adjusted
+  beside-refused k q = within-refused n k _ (refused-day beside k _ h q)
+
+-- ---- open days one by one
+pub record Steps (mask : ℕ) (closed : List ℕ) (back : Bool) (size day left at : ℕ) : Type 0 where
+  pub same : closedOk closed ≡ true → openSteps mask closed back left at ≡ openSteps mask closed back size day
+
+pub steps-start : {mask : ℕ} {closed : List ℕ} {back : Bool} {size day : ℕ} → Steps mask closed back size day size day
+steps-start = record { same = λ ok. refl }
+
+module _ {mask : ℕ} {closed : List ℕ} {back : Bool} {size day left at : ℕ} (g : Steps mask closed back size day left at) where
+  turn : 0 < left → openSteps mask closed back left at ≡ then (adjusted mask closed (towards back) (step back at 1)) (openSteps mask closed back (left - 1))
+  unfolding openSteps
+  turn h = ap (λ (k : ℕ). openSteps mask closed back k at) (back-one left h)
+    where
+      back-one : (k : ℕ) → 0 < k → k ≡ suc (k - 1)
+      back-one k l = omega arith
+
+  module _ (h : 0 < left) {next : Dated} (e : closedOk closed ≡ true → dated next ≡ adjusted mask closed (towards back) (step back at 1)) where
+    pub steps-next : {x : Date} → next ≡ Day x → Steps mask closed back size day (left - 1) (x .day)
+    steps-next {x} q =
+        record { same = λ ok. then-given _ (x .day) _ _ (given-day next x _ (e ok) q) refl ∙ sym (turn h) ∙ g .same ok }
+
+    pub steps-refused : (n : ℕ) → next ≡ Refused n → closedOk closed ≡ true → refused n ≡ openSteps mask closed back size day
+    steps-refused n q ok = then-refused _ n _ (refused-day next n _ (e ok) q) ∙ sym (turn h) ∙ g .same ok
+
+  pub steps-end : left ≤ 0 → closedOk closed ≡ true → given at ≡ openSteps mask closed back size day
+  unfolding openSteps
+  steps-end h ok = sym (ap (λ (k : ℕ). openSteps mask closed back k at) (none left h)) ∙ g .same ok
+    where
+      none : (k : ℕ) → k ≤ 0 → k ≡ 0
+      none k l = omega arith
+
+-- ---- the calendar's check
+pub sound-closed : (mask : ℕ) (closed : List ℕ) (t : Bool) → t ≡ calendarOk mask closed → t ≡ true → closedOk closed ≡ true
+sound-closed mask closed t p e = ok-closed mask closed (sym p ∙ e)
+
+pub shut-mask : (mask : ℕ) (closed : List ℕ) → mask % 128 ≡ 127 → false ≡ calendarOk mask closed
+unfolding calendarOk
+shut-mask mask closed e = sym (rw (eq-eqb (mask % 128) 127 e))
+
+pub open-mask : (mask : ℕ) (closed : List ℕ) (r : Bool) → (mask % 128 ≡ 127 → ⊥) → r ≡ closedOk closed → r ≡ calendarOk mask closed
+unfolding calendarOk
+open-mask mask closed r e h = rw (ne-eqb (mask % 128) 127 e) h
+
+-- ---- advance: the sign and the size of the length, as the calls gave them
+module _ (length sent : ℤ) (unit : Unit) (size : ℕ) (short : Bool) (same : sent ≡ length) (s : size ≡ natAbs sent) (q : short ≡ tenorOk size unit) where
+  test : short ≡ tenorOk (natAbs length) unit
+  test = q ∙ ap (λ (k : ℕ). tenorOk k unit) (s ∙ ap natAbs same)
+
+  pub tenor-long : (x : Answer ℕ) → short ≡ false → refused TENOR ≡ need TENOR (tenorOk (natAbs length) unit) x
+  tenor-long x e = failed _ _ _ _ test e
+
+  pub tenor-fits : (mask : ℕ) (closed : List ℕ) (convention : Convention) (endOfMonth : Bool) (day : ℕ) (back : Bool) (r : Answer ℕ) → back ≡ isNegative sent → short ≡ true → r ≡ advanced mask closed back size unit convention endOfMonth day → r ≡ need TENOR (tenorOk (natAbs length) unit) (advanced mask closed (isNegative length) (natAbs length) unit convention endOfMonth day)
+  tenor-fits mask closed convention endOfMonth day back r n e h =
+      passed _ _ _ _ _ test e
+      (h
+      ∙ ap (λ (b : Bool). advanced mask closed b size unit convention endOfMonth day) (n ∙ ap isNegative same)
+      ∙ ap (λ (k : ℕ). advanced mask closed (isNegative length) k unit convention endOfMonth day) (s ∙ ap natAbs same))

@@ -1,0 +1,39 @@
+-- `calendar::is_short` meets its contract.
+-- Assumes nothing.
+use Rattle.calendar.specs.Calendar.{longest, tenorOk}
+use borrow.Author.Needs.{needs}
+use Rattle.calendar.proofs.is_short.Statement.{statement}
+use Rattle.calendar.proofs.is_short.Tie as tie
+
+enum-told : tie.Need-enum-told
+enum-told c = search needs
+
+enum-told-2 : tie.Need-enum-told-2
+enum-told-2 c = search needs
+
+enum-told-3 : tie.Need-enum-told-3
+enum-told-3 c = search needs
+
+enum-told-4 : tie.Need-enum-told-4
+enum-told-4 c = search needs
+
+returns : tie.Need-returns
+unfolding tenorOk longest
+returns c = cc
+
+returns-2 : tie.Need-returns-2
+unfolding tenorOk longest
+returns-2 c = cc
+
+returns-3 : tie.Need-returns-3
+unfolding tenorOk longest
+returns-3 c = cc
+
+returns-4 : tie.Need-returns-4
+unfolding tenorOk longest
+returns-4 c = cc
+
+pub is-short-spec : {M : Type 1} → statement M
+is-short-spec =
+    tie.close
+    (tie.spec enum-told enum-told-2 enum-told-3 enum-told-4 returns returns-2 returns-3 returns-4)

@@ -1,0 +1,9 @@
+pub mod Open
+pub mod Kept
+pub mod Mask
+pub mod Places
+pub mod Adjust
+pub mod Search
+pub mod Calendar
+pub mod Told
+pub mod Sums

@@ -1,0 +1,44 @@
+// A list of closed dates: at most 4,096, strictly ascending, from 1800-01-01 to 2399-12-31.
+ghost use mathlib.Core.Path.{_≡_};
+ghost use Rattle.calendar.specs.Open.{closedOk};
+ghost use Rattle.calendar.specs.Places.{LowerBound};
+
+// Whether the list keeps its rule: one pass.
+pub(crate) fn keep_rule(closed: &[u32]) -> bool
+    ensures { λ r. ⌜ r ≡ closedOk (now (closed .entry)) ⌝ }
+{
+    if 4096 < closed.len() {
+        return false;
+    }
+    let mut low: u32 = 657072;
+    let mut i = 0;
+    while i < closed.len() {
+        let x = closed[i];
+        if x < low {
+            return false;
+        }
+        if 876217 <= x {
+            return false;
+        }
+        low = x + 1;
+        i += 1;
+    }
+    true
+}
+
+// The first place whose date is at least x, or the length.
+pub(crate) fn lower_bound(closed: &[u32], x: u32) -> usize
+    ensures { λ r. ⌜ LowerBound (now (closed .entry)) x r ⌝ }
+{
+    let mut lo = 0;
+    let mut hi = closed.len();
+    while lo < hi {
+        let mid = lo + (hi - lo) / 2;
+        if closed[mid] < x {
+            lo = mid + 1;
+        } else {
+            hi = mid;
+        }
+    }
+    lo
+}

@@ -1,0 +1,161 @@
+// Open days of a calendar: weekly closed days, Monday the lowest bit of the mask, and a lent list of closed dates.
+ghost use mathlib.Core.Path.{_≡_};
+ghost use Rattle.date.specs.Date.{dated, inBook};
+ghost use Rattle.calendar.specs.Open.{calendarOk};
+ghost use Rattle.calendar.specs.Calendar.{checked, decided, checkOf, isOpenOf, adjustOf, lastOpenOf, isMonthEndOf, tenorOk, advancedOf};
+use date::Date;
+use date::Dated;
+use period::Period;
+use period::Unit;
+
+// The search for open days from 1800 to 2399, for the crates above: on a list that they have checked.
+pub mod search;
+// The list of closed dates: its rule, and the place of a day in it.
+mod closed_dates;
+// The sign and the size of a count.
+mod count;
+
+pub enum Convention {
+    Unadjusted,
+    Following,
+    ModifiedFollowing,
+    Preceding,
+    ModifiedPreceding,
+}
+
+pub enum Checked {
+    Sound,
+    Refused(u8),
+}
+
+pub enum Decided {
+    Yes,
+    No,
+    Refused(u8),
+}
+
+// A date that is given to a customer's function lies in the book.
+fn in_book(day: u32) -> bool
+    ensures { λ r. ⌜ r ≡ inBook day ⌝ }
+{
+    Date::FIRST.day <= day && day <= Date::LAST.day
+}
+
+fn is_sound(mask: u8, closed: &[u32]) -> bool
+    ensures { λ r. ⌜ r ≡ calendarOk mask (now (closed .entry)) ⌝ }
+{
+    if mask % 128 == 127 {
+        return false;
+    }
+    closed_dates::keep_rule(closed)
+}
+
+fn is_short(size: u32, unit: Unit) -> bool
+    ensures { λ r. ⌜ r ≡ tenorOk size unit ⌝ }
+{
+    match unit {
+        Unit::Days => size <= 366,
+        Unit::Weeks => size <= 520,
+        Unit::Months => size <= 1200,
+        Unit::Years => size <= 100,
+    }
+}
+
+pub fn check(mask: u8, closed: &[u32]) -> Checked
+    ensures { λ r. ⌜ checked r ≡ checkOf mask (now (closed .entry)) ⌝ }
+{
+    if is_sound(mask, closed) {
+        return Checked::Sound;
+    }
+    Checked::Refused(refusal::CALENDAR)
+}
+
+pub fn is_open(date: Date, mask: u8, closed: &[u32]) -> Decided
+    ensures { λ r. ⌜ decided r ≡ isOpenOf mask (now (closed .entry)) (date .day) ⌝ }
+{
+    let day = date.day;
+    if in_book(day) {
+        if is_sound(mask, closed) {
+            if search::is_open(day, mask, closed) {
+                return Decided::Yes;
+            }
+            return Decided::No;
+        }
+        return Decided::Refused(refusal::CALENDAR);
+    }
+    Decided::Refused(refusal::BOOK)
+}
+
+pub fn adjust(date: Date, convention: Convention, mask: u8, closed: &[u32]) -> Dated
+    ensures { λ r. ⌜ dated r ≡ adjustOf mask (now (closed .entry)) convention (date .day) ⌝ }
+{
+    let day = date.day;
+    if in_book(day) {
+        if is_sound(mask, closed) {
+            return search::adjust(day, convention, mask, closed);
+        }
+        return Dated::Refused(refusal::CALENDAR);
+    }
+    Dated::Refused(refusal::BOOK)
+}
+
+// The last open day of the date's month.
+pub fn month_end(date: Date, mask: u8, closed: &[u32]) -> Dated
+    ensures { λ r. ⌜ dated r ≡ lastOpenOf mask (now (closed .entry)) (date .day) ⌝ }
+{
+    let day = date.day;
+    if in_book(day) {
+        if is_sound(mask, closed) {
+            return search::last_open(day, mask, closed);
+        }
+        return Dated::Refused(refusal::CALENDAR);
+    }
+    Dated::Refused(refusal::BOOK)
+}
+
+// Whether the date is the last open day of its month, or after it. The empty date is not.
+pub fn is_month_end(date: Date, mask: u8, closed: &[u32]) -> Decided
+    ensures { λ r. ⌜ decided r ≡ isMonthEndOf mask (now (closed .entry)) (date .day) ⌝ }
+{
+    let day = date.day;
+    if day == 0 {
+        if is_sound(mask, closed) {
+            return Decided::No;
+        }
+        return Decided::Refused(refusal::CALENDAR);
+    }
+    if in_book(day) {
+        if is_sound(mask, closed) {
+            return search::at_month_end(day, mask, closed);
+        }
+        return Decided::Refused(refusal::CALENDAR);
+    }
+    Decided::Refused(refusal::BOOK)
+}
+
+// The date moved by the period: days are open days, the other units are added and adjusted.
+pub fn advance(
+    date: Date,
+    tenor: Period,
+    convention: Convention,
+    monthend: bool,
+    mask: u8,
+    closed: &[u32],
+) -> Dated
+    ensures { λ r. ⌜ dated r ≡ advancedOf mask (now (closed .entry)) (tenor .length) (tenor .unit) convention monthend (date .day) ⌝ }
+{
+    let day = date.day;
+    if in_book(day) {
+        if is_sound(mask, closed) {
+            let back = count::is_negative(tenor.length);
+            let size = count::size(tenor.length);
+            let unit = tenor.unit;
+            if is_short(size, unit) {
+                return search::advance(day, back, size, unit, convention, monthend, mask, closed);
+            }
+            return Dated::Refused(refusal::TENOR);
+        }
+        return Dated::Refused(refusal::CALENDAR);
+    }
+    Dated::Refused(refusal::BOOK)
+}

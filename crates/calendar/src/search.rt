@@ -1,0 +1,370 @@
+// Open days from 1800-01-01 to 2399-12-31, for the crates above: on a list of closed dates that the caller has checked.
+// A search costs the logarithm of the list and at most thirty-one steps.
+ghost use mathlib.Core.Path.{_≡_};
+ghost use mathlib.Core.Bool.{true, false};
+ghost use Prim.Native.Nat.{_≤_, _<_};
+ghost use Rattle.refusal.specs.Answer.{then};
+ghost use Rattle.date.specs.Date.{dated, monthIndex, step};
+ghost use Rattle.calendar.specs.declared.Convention.the-variants.{Following, ModifiedFollowing, Preceding, ModifiedPreceding};
+ghost use Rattle.calendar.specs.Open.{weeklyClosed, isOpen, closedOk};
+ghost use Rattle.calendar.specs.Adjust.{inSpan, firstOpen, sameMonth, towards, adjusted, lastOpen, atMonthEnd, openSteps, endAsked, landed, addWeeks, addMonths, advanced};
+ghost use Rattle.calendar.specs.Calendar.{decided};
+use crate::Convention;
+use crate::Decided;
+use crate::closed_dates;
+use date::Date;
+use date::Dated;
+use date::civil;
+use date::span;
+use period::Unit;
+
+// How many days a search tries.
+const TRIES: u32 = 31;
+
+fn in_span(day: u32) -> bool
+    ensures { λ r. ⌜ r ≡ inSpan day ⌝ }
+{
+    657072 <= day && day <= 876216
+}
+
+// The weekday's bit of the mask is set: Monday is the lowest bit, and day 1 is a Monday.
+fn weekly_closed(day: u32, mask: u8) -> bool
+    ensures { λ r. ⌜ r ≡ weeklyClosed mask day ⌝ }
+{
+    let weekday = ((day as u64 + 6) % 7) as u32;
+    (mask >> weekday) % 2 == 1
+}
+
+fn month_index(day: u32) -> u32
+    ensures { λ r. ⌜ r ≡ monthIndex day ⌝ }
+{
+    let f = civil::fields_of(day);
+    12 * f.year + f.month - 1
+}
+
+fn same_month(a: u32, b: u32) -> bool
+    ensures { λ r. ⌜ r ≡ sameMonth a b ⌝ }
+{
+    if a == b {
+        return true;
+    }
+    month_index(a) == month_index(b)
+}
+
+pub(crate) fn is_open(day: u32, mask: u8, closed: &[u32]) -> bool
+    ensures { λ r. ⌜ (closedOk (now (closed .entry)) ≡ true → r ≡ isOpen mask (now (closed .entry)) day) ⌝ }
+{
+    if weekly_closed(day, mask) {
+        return false;
+    }
+    let at = closed_dates::lower_bound(closed, day);
+    if at < closed.len() {
+        return closed[at] != day;
+    }
+    true
+}
+
+// The first open day of the thirty-one that start at `day`. The scan of the closed dates starts at the lower bound and never goes back.
+fn ahead(day: u32, mask: u8, closed: &[u32]) -> Dated
+    requires { ⌜ (657072 ≤ day) × (day < 876217) ⌝ }
+    ensures { λ r. ⌜ (closedOk (now (closed .entry)) ≡ true → dated r ≡ firstOpen mask (now (closed .entry)) false 31 day) ⌝ }
+{
+    let mut at = closed_dates::lower_bound(closed, day);
+    let mut d = day;
+    let mut left = TRIES;
+    let open = 'days: loop {
+        if left == 0 {
+            return Dated::Refused(refusal::CLOSED);
+        }
+        let here = d;
+        d += 1;
+        left -= 1;
+        if weekly_closed(here, mask) {
+            continue 'days;
+        }
+        'scan: while at < closed.len() {
+            let x = closed[at];
+            if here < x {
+                break 'scan;
+            }
+            at += 1;
+            if x == here {
+                continue 'days;
+            }
+        }
+        break here;
+    };
+    Dated::Day(Date { day: open })
+}
+
+// The mirror: the first open day of the thirty-one that end at `day`, from the last.
+fn behind(day: u32, mask: u8, closed: &[u32]) -> Dated
+    requires { ⌜ (657072 ≤ day) × (day < 876217) ⌝ }
+    ensures { λ r. ⌜ (closedOk (now (closed .entry)) ≡ true → dated r ≡ firstOpen mask (now (closed .entry)) true 31 day) ⌝ }
+{
+    let mut at = closed_dates::lower_bound(closed, day + 1);
+    let mut d = day;
+    let mut left = TRIES;
+    let open = 'days: loop {
+        if left == 0 {
+            return Dated::Refused(refusal::CLOSED);
+        }
+        let here = d;
+        d -= 1;
+        left -= 1;
+        if weekly_closed(here, mask) {
+            continue 'days;
+        }
+        'scan: while 0 < at {
+            let x = closed[at - 1];
+            if x < here {
+                break 'scan;
+            }
+            at -= 1;
+            if x == here {
+                continue 'days;
+            }
+        }
+        break here;
+    };
+    Dated::Day(Date { day: open })
+}
+
+pub fn following(day: u32, mask: u8, closed: &[u32]) -> Dated
+    ensures { λ r. ⌜ (closedOk (now (closed .entry)) ≡ true → dated r ≡ adjusted mask (now (closed .entry)) Following day) ⌝ }
+{
+    if in_span(day) {
+        let first = ahead(day, mask, closed);
+        match first {
+            Dated::Day(open) => return span::within(open.day as u64),
+            Dated::Refused(n) => return Dated::Refused(n),
+        }
+    }
+    Dated::Refused(refusal::BOOK)
+}
+
+pub fn preceding(day: u32, mask: u8, closed: &[u32]) -> Dated
+    ensures { λ r. ⌜ (closedOk (now (closed .entry)) ≡ true → dated r ≡ adjusted mask (now (closed .entry)) Preceding day) ⌝ }
+{
+    if in_span(day) {
+        let first = behind(day, mask, closed);
+        match first {
+            Dated::Day(open) => return span::within(open.day as u64),
+            Dated::Refused(n) => return Dated::Refused(n),
+        }
+    }
+    Dated::Refused(refusal::BOOK)
+}
+
+fn modified_following(day: u32, mask: u8, closed: &[u32]) -> Dated
+    ensures { λ r. ⌜ (closedOk (now (closed .entry)) ≡ true → dated r ≡ adjusted mask (now (closed .entry)) ModifiedFollowing day) ⌝ }
+{
+    let first = following(day, mask, closed);
+    match first {
+        Dated::Day(later) => {
+            if same_month(day, later.day) {
+                return Dated::Day(later);
+            }
+            preceding(day, mask, closed)
+        }
+        Dated::Refused(n) => Dated::Refused(n),
+    }
+}
+
+fn modified_preceding(day: u32, mask: u8, closed: &[u32]) -> Dated
+    ensures { λ r. ⌜ (closedOk (now (closed .entry)) ≡ true → dated r ≡ adjusted mask (now (closed .entry)) ModifiedPreceding day) ⌝ }
+{
+    let first = preceding(day, mask, closed);
+    match first {
+        Dated::Day(earlier) => {
+            if same_month(day, earlier.day) {
+                return Dated::Day(earlier);
+            }
+            following(day, mask, closed)
+        }
+        Dated::Refused(n) => Dated::Refused(n),
+    }
+}
+
+pub fn adjust(day: u32, convention: Convention, mask: u8, closed: &[u32]) -> Dated
+    ensures { λ r. ⌜ (closedOk (now (closed .entry)) ≡ true → dated r ≡ adjusted mask (now (closed .entry)) convention day) ⌝ }
+{
+    match convention {
+        Convention::Unadjusted => span::within(day as u64),
+        Convention::Following => following(day, mask, closed),
+        Convention::ModifiedFollowing => modified_following(day, mask, closed),
+        Convention::Preceding => preceding(day, mask, closed),
+        Convention::ModifiedPreceding => modified_preceding(day, mask, closed),
+    }
+}
+
+fn toward(day: u32, back: bool, mask: u8, closed: &[u32]) -> Dated
+    ensures { λ r. ⌜ (closedOk (now (closed .entry)) ≡ true → dated r ≡ adjusted mask (now (closed .entry)) (towards back) day) ⌝ }
+{
+    if back {
+        return preceding(day, mask, closed);
+    }
+    following(day, mask, closed)
+}
+
+// The calendar's month end: the last open day of the month, looked for from its last day.
+pub fn last_open(day: u32, mask: u8, closed: &[u32]) -> Dated
+    ensures { λ r. ⌜ (closedOk (now (closed .entry)) ≡ true → dated r ≡ lastOpen mask (now (closed .entry)) day) ⌝ }
+{
+    let last = span::last_of_month(day);
+    match last {
+        Dated::Day(end) => toward(end.day, true, mask, closed),
+        Dated::Refused(n) => Dated::Refused(n),
+    }
+}
+
+// The next open day after `day`, or before it.
+fn neighbour(day: u32, back: bool, mask: u8, closed: &[u32]) -> Dated
+    ensures { λ r. ⌜ (closedOk (now (closed .entry)) ≡ true → dated r ≡ adjusted mask (now (closed .entry)) (towards back) (step back day 1)) ⌝ }
+{
+    let beside = span::shift_by(day, back, 1, Unit::Days);
+    match beside {
+        Dated::Day(from) => toward(from.day, back, mask, closed),
+        Dated::Refused(n) => Dated::Refused(n),
+    }
+}
+
+pub fn at_month_end(day: u32, mask: u8, closed: &[u32]) -> Decided
+    ensures { λ r. ⌜ (closedOk (now (closed .entry)) ≡ true → decided r ≡ atMonthEnd mask (now (closed .entry)) day) ⌝ }
+{
+    if in_span(day) {
+        let next = neighbour(day, false, mask, closed);
+        match next {
+            Dated::Day(open) => {
+                if same_month(day, open.day) {
+                    return Decided::No;
+                }
+                return Decided::Yes;
+            }
+            Dated::Refused(n) => return Decided::Refused(n),
+        }
+    }
+    Decided::Refused(refusal::BOOK)
+}
+
+// So many open days on, or back, each found from the neighbouring day.
+fn step_open(day: u32, back: bool, size: u32, mask: u8, closed: &[u32]) -> Dated
+    ensures { λ r. ⌜ (closedOk (now (closed .entry)) ≡ true → dated r ≡ openSteps mask (now (closed .entry)) back size day) ⌝ }
+{
+    let mut at = day;
+    let mut left = size;
+    while 0 < left {
+        let next = neighbour(at, back, mask, closed);
+        match next {
+            Dated::Day(open) => {
+                at = open.day;
+                left -= 1;
+            }
+            Dated::Refused(n) => return Dated::Refused(n),
+        }
+    }
+    Dated::Day(Date { day: at })
+}
+
+fn end_asked(day: u32, asked: bool, mask: u8, closed: &[u32]) -> Decided
+    ensures { λ r. ⌜ (closedOk (now (closed .entry)) ≡ true → decided r ≡ endAsked mask (now (closed .entry)) asked day) ⌝ }
+{
+    if asked {
+        return at_month_end(day, mask, closed);
+    }
+    Decided::No
+}
+
+fn add_weeks(
+    day: u32,
+    back: bool,
+    size: u32,
+    convention: Convention,
+    mask: u8,
+    closed: &[u32],
+) -> Dated
+    ensures { λ r. ⌜ (closedOk (now (closed .entry)) ≡ true → dated r ≡ addWeeks mask (now (closed .entry)) back size convention day) ⌝ }
+{
+    let moved = span::shift_by(day, back, size, Unit::Weeks);
+    match moved {
+        Dated::Day(to) => adjust(to.day, convention, mask, closed),
+        Dated::Refused(n) => Dated::Refused(n),
+    }
+}
+
+fn land(moved: u32, convention: Convention, end: Decided, mask: u8, closed: &[u32]) -> Dated
+    ensures { λ r. ⌜ (closedOk (now (closed .entry)) ≡ true → dated r ≡ then (decided end) (landed mask (now (closed .entry)) convention moved)) ⌝ }
+{
+    match end {
+        Decided::Yes => last_open(moved, mask, closed),
+        Decided::No => adjust(moved, convention, mask, closed),
+        Decided::Refused(n) => Dated::Refused(n),
+    }
+}
+
+// The day so many months or years on, or back, then the month's end or adjusted.
+fn add_months(
+    day: u32,
+    back: bool,
+    size: u32,
+    unit: Unit,
+    convention: Convention,
+    monthend: bool,
+    mask: u8,
+    closed: &[u32],
+) -> Dated
+    ensures { λ r. ⌜ (closedOk (now (closed .entry)) ≡ true → dated r ≡ addMonths mask (now (closed .entry)) back size unit convention monthend day) ⌝ }
+{
+    let moved = span::shift_by(day, back, size, unit);
+    match moved {
+        Dated::Day(to) => land(
+            to.day,
+            convention,
+            end_asked(day, monthend, mask, closed),
+            mask,
+            closed,
+        ),
+        Dated::Refused(n) => Dated::Refused(n),
+    }
+}
+
+pub fn advance(
+    day: u32,
+    back: bool,
+    size: u32,
+    unit: Unit,
+    convention: Convention,
+    monthend: bool,
+    mask: u8,
+    closed: &[u32],
+) -> Dated
+    ensures { λ r. ⌜ (closedOk (now (closed .entry)) ≡ true → dated r ≡ advanced mask (now (closed .entry)) back size unit convention monthend day) ⌝ }
+{
+    if in_span(day) {
+        match unit {
+            Unit::Days => return step_open(day, back, size, mask, closed),
+            Unit::Weeks => return add_weeks(day, back, size, convention, mask, closed),
+            Unit::Months => return add_months(
+                day,
+                back,
+                size,
+                Unit::Months,
+                convention,
+                monthend,
+                mask,
+                closed,
+            ),
+            Unit::Years => return add_months(
+                day,
+                back,
+                size,
+                Unit::Years,
+                convention,
+                monthend,
+                mask,
+                closed,
+            ),
+        }
+    }
+    Dated::Refused(refusal::BOOK)
+}

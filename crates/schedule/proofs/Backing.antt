@@ -1,0 +1,156 @@
+-- A law for each way through a backward build.
+-- Assumes nothing.
+use mathlib.Core.Path.{_≡_, refl, ap, sym, _∙_}
+use mathlib.Core.Bool.{Bool, true, false, not}
+use mathlib.Core.List.{List, []}
+use Prim.Native.Nat.{ℕ, zero, suc, _+_, _-_, _*_, _≤_, _<_}
+use native.Mathlib.Omega.{arith}
+use lib.Dec.{eqb, ltb}
+use lib.IntN.{natAbs}
+use lib.ListN.{length, take, drop}
+use lib.Seq.{take-all}
+use borrow.Author.Tests.{eq-eqb, ne-eqb, lt-ltb, le-ltb}
+use Rattle.refusal.specs.Answer.{Answer, given, refused, need, then, ROOM}
+use Rattle.refusal.specs.Laws.{fails, holds, then-given, then-refused}
+use Rattle.period.specs.declared.Unit.{Unit}
+use Rattle.period.specs.declared.Unit.the-variants.{Days, Weeks, Months, Years}
+use Rattle.date.specs.declared.Date.{Date}
+use Rattle.date.specs.declared.Dated.{Dated}
+use Rattle.date.specs.declared.Dated.the-variants as dated-is
+use Rattle.date.specs.Civil.{pickN, fieldsOf}
+use Rattle.date.specs.Date.{dated, inBook, monthIndex}
+use Rattle.date.specs.Made.{given-day, refused-day}
+use Rattle.date.specs.Moves.{book-from, book-le, valid-at, year-at}
+use Rattle.steps.specs.declared.Pace.{Pace}
+use Rattle.steps.specs.declared.Seed.{Seed}
+use Rattle.steps.specs.declared.Request.{Request}
+use Rattle.steps.specs.Rules.{paceOf, paceBy}
+use Rattle.steps.specs.Table.{isGiven, anchorOk}
+use Rattle.steps.specs.Candidates.{candidate, seedOf, turnOf}
+use Rattle.steps.specs.Generate.{Lists, Made, nothing, put, hasRoom, putPenultimate, anchorOr, begun, ended, madeBack, backwardEnd, walk, candidates, lastTry}
+use Rattle.steps.specs.Finish.{sameFlag}
+use Rattle.schedule.specs.declared.Filled.{Filled}
+use Rattle.schedule.specs.declared.Filled.the-variants as filled-is
+use Rattle.schedule.specs.declared.adds.Added.{Added}
+use Rattle.schedule.specs.declared.adds.Added.the-variants as added-is
+use Rattle.schedule.specs.declared.Generated.the-variants as generated-is
+use Rattle.schedule.specs.Part.{Part, held, lastPut, filled, Placed, Filling}
+use Rattle.schedule.specs.Turning.{SeedOk, PaceOk}
+use Rattle.schedule.specs.Adding.{Adding}
+use Rattle.schedule.specs.Making.{Buildable, generated, Lies, Generates}
+use Rattle.schedule.proofs.Puts.{put-length}
+use Rattle.schedule.proofs.Paces.{pace-short}
+use Rattle.schedule.proofs.Chains.{added-sits, added-given}
+
+-- ---- anchors
+pub anchor-none : (anchor other : ℕ) → anchor ≡ 0 → other ≡ anchorOr anchor other
+unfolding anchorOr isGiven
+anchor-none anchor other e = simp (eq-eqb anchor 0 e)
+
+pub anchor-some : (anchor other : ℕ) → (anchor ≡ 0 → ⊥) → anchor ≡ anchorOr anchor other
+unfolding anchorOr isGiven
+anchor-some anchor other e = simp (ne-eqb anchor 0 e)
+
+book-span : (d : ℕ) → inBook d ≡ true → (657072 ≤ d) × (d ≤ 803168)
+book-span d h = (omega (arith, book-from d h), book-le d h)
+
+anchor-book : (anchor other : ℕ) → anchorOk anchor ≡ true → inBook other ≡ true → inBook (anchorOr anchor other) ≡ true
+unfolding anchorOr isGiven anchorOk
+anchor-book zero other a b = b
+anchor-book (suc n) other a b = let e = ne-eqb (suc n) 0 (λ h. omega arith) in rw e (rw e at a)
+
+-- ---- seeds and paces of a request that passed the checks
+month-few : (d : ℕ) → d ≤ 876216 → monthIndex d ≤ 30000
+unfolding monthIndex
+month-few d h = let v = valid-at (fieldsOf d) d refl in let y = year-at (fieldsOf d) d refl in omega (arith, v .twelve)
+
+pub seed-ok : (m : Bool) (d : ℕ) → 657072 ≤ d → d ≤ 876216 → SeedOk (seedOf m d)
+unfolding seedOf
+seed-ok m d a b = record { from-1800 = a; to-2399 = b; month-few = month-few d b }
+
+pub anchor-seed : (m : Bool) (anchor other : ℕ) → anchorOk anchor ≡ true → inBook other ≡ true → SeedOk (seedOf m (anchorOr anchor other))
+anchor-seed m anchor other a b =
+    let s = book-span (anchorOr anchor other) (anchor-book anchor other a b) in
+    seed-ok m (anchorOr anchor other) (s .0) (omega arith)
+
+some-go : (n : ℕ) (u : Unit) → 1 ≤ n → 1 ≤ paceBy n u .size
+unfolding paceBy
+some-go n Days h = h
+some-go n Weeks h = omega arith
+some-go n Months h = h
+some-go n Years h = omega arith
+
+pub pace-ok : (q : Request) (closed : List ℕ) → Buildable q closed → PaceOk (paceOf (q .tenor))
+unfolding paceOf
+pace-ok q closed b = record { some = some-go (natAbs (q .tenor .length)) (q .tenor .unit) (b .some); few = pace-short (q .tenor) (b .tenor) }
+
+-- ---- the next-to-last date
+module _ (pace : Pace) (seed : Seed) {room n : ℕ} {work marks : List ℕ} (p : Part room n work marks) (some : 0 < n) (anchor : ℕ) where
+  pub penultimate-absent : anchor ≡ 0 → Filling true room (putPenultimate pace seed room anchor (held true n work marks)) (filled-is.Ready n) work marks
+  unfolding putPenultimate filled Placed
+  penultimate-absent e = record { says = rw e refl; part = (p, some) }
+
+  there : (x : ℕ) → (x ≡ 0 → ⊥) → need ROOM (hasRoom room (held true n work marks)) (then (candidate true pace seed 1) (λ day. put room x (sameFlag day x) (held true n work marks))) ≡ putPenultimate pace seed room x (held true n work marks)
+  unfolding putPenultimate
+  there zero h = absurd (h refl)
+  there (suc x) h = refl
+
+  length-is : length (held true n work marks .dates) ≡ n
+  unfolding held
+  length-is = put-length true work n (p .work-size) (omega (arith, p))
+
+  full : room ≤ n → hasRoom room (held true n work marks) ≡ false
+  unfolding hasRoom
+  full h = le-ltb (length (held true n work marks .dates)) room (let l = length-is in omega arith)
+
+  free : n < room → hasRoom room (held true n work marks) ≡ true
+  unfolding hasRoom
+  free h = lt-ltb (length (held true n work marks .dates)) room (let l = length-is in omega arith)
+
+  module _ (h : anchor ≡ 0 → ⊥) where
+    pub penultimate-full : room ≤ n → Filling true room (putPenultimate pace seed room anchor (held true n work marks)) (filled-is.Refused 14) work marks
+    unfolding filled Placed
+    penultimate-full e = record { says = fails ROOM _ _ (full e) ∙ there anchor h; part = tt }
+
+    module _ (space : n < room) (next : Dated) (s : dated next ≡ candidate true pace seed 1) where
+      pub penultimate-stop : (k : ℕ) → next ≡ dated-is.Refused k → Filling true room (putPenultimate pace seed room anchor (held true n work marks)) (filled-is.Refused k) work marks
+      unfolding filled Placed
+      penultimate-stop k e = record { says = holds ROOM _ _ _ (free space) (then-refused _ k _ (refused-day next k _ s e)) ∙ there anchor h; part = tt }
+
+      pub penultimate-put : (d : Date) → next ≡ dated-is.Day d → (f : ℕ) → f ≡ sameFlag (d .day) anchor → (r : Filled) (work′ marks′ : List ℕ) → Filling true room (put room anchor f (held true n work marks)) r work′ marks′ → Filling true room (putPenultimate pace seed room anchor (held true n work marks)) r work′ marks′
+      penultimate-put d e f g r work′ marks′ v =
+          record {
+            says =
+                v .says
+                ∙ (holds ROOM _ _ _ (free space) (then-given _ (d .day) _ _ (given-day next d _ s e) (ap (λ (x : ℕ). put room anchor x (held true n work marks)) g)) ∙ there anchor h);
+            part = v .part;
+          }
+
+-- ---- the end
+module _ (q : Request) (closed : List ℕ) (tries seed : ℕ) {room : ℕ} {same : Type 0} (l : Lists) {a : Added} {work marks : List ℕ} (p : Adding (q .mask) closed (q .convention) true room same (ended q closed room l) a work marks) where
+  pub back-size : (n f : ℕ) → a ≡ added-is.Ready n f → n ≤ 4096
+  back-size n f e = let s = added-sits p n f e .0 in omega (arith, s)
+
+  pub back-made : (n f : ℕ) → a ≡ added-is.Ready n f → Generates room (backwardEnd q closed room tries seed l) (generated-is.Ready (4096 - n) (4096 - n) n tries seed) work marks
+  unfolding backwardEnd generated Lies held lastPut
+  back-made n f e =
+      let s = added-sits p n f e in
+      let t = s .0 in
+      let w : length (drop (4096 - n) work) ≡ n = put-length true work n (t .work-size) (omega (arith, t)) in
+      let d : take n (drop (4096 - n) work) ≡ drop (4096 - n) work = take-all n (drop (4096 - n) work) (omega arith) in
+      record {
+        says = then-given (ended q closed room l) (held true n work marks) _ _ (added-given p n f e) (rw (d, w) refl);
+        lies = (omega arith, t .fits, omega (arith, t), omega (arith, t));
+      }
+
+-- ---- what the steps were called with is what the definition says
+pub loop-is : (q : Request) (closed : List ℕ) (room : ℕ) (back : Bool) (pace : Pace) (seed : Seed) (day exit day′ exit′ : ℕ) (l : Lists) → pace ≡ paceOf (q .tenor) → seed ≡ seedOf (q .monthend) day → day ≡ day′ → exit ≡ exit′ → walk (turnOf (q .mask) closed (q .convention) back pace seed exit) room 876216 1 l ≡ candidates q closed room back day′ exit′ l
+unfolding candidates lastTry
+loop-is q closed room back pace seed day exit day′ exit′ l a b c d = rw (a, b, c, d) refl
+
+pub begun-is : (q : Request) (room : ℕ) (pace : Pace) (seed : Seed) → pace ≡ paceOf (q .tenor) → seed ≡ seedOf (q .monthend) (q .termination .day) → then (put room (q .termination .day) 1 nothing) (putPenultimate pace seed room (q .penultimate .day)) ≡ begun q room
+unfolding begun
+begun-is q room pace seed a b = rw (a, b) refl
+
+pub back-end-seed : (q : Request) (closed : List ℕ) (room tries seed seed′ : ℕ) (l : Lists) → seed ≡ seed′ → backwardEnd q closed room tries seed l ≡ backwardEnd q closed room tries seed′ l
+back-end-seed q closed room tries seed seed′ l e = rw e refl

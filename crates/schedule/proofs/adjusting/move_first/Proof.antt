@@ -1,0 +1,22 @@
+-- `schedule::adjusting::move_first` meets its contract.
+-- Assumes nothing.
+use Rattle.steps.specs.Finish.{onFirst}
+use borrow.Author.Needs.{needs}
+use Rattle.schedule.proofs.adjusting.move_first.Statement.{statement}
+use Rattle.schedule.proofs.adjusting.move_first.Tie as tie
+use Rattle.schedule.proofs.adjusting.move_first.Reads as reads
+use Rattle.schedule.proofs.adjusting.move_first.Lts as lts
+use Rattle.schedule.proofs.moving.move_between.Reads as move-between-reads
+
+move-between-requires : tie.Need-move-between-requires
+move-between-requires c κs = search needs
+
+same-length : tie.Need-same-length
+same-length c = search needs
+
+returns : tie.Need-returns
+unfolding onFirst
+returns c = search needs
+
+pub move-first-spec : {M : Type 1} → statement M
+move-first-spec = tie.close (tie.spec move-between-requires same-length returns)

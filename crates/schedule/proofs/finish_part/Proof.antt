@@ -1,0 +1,84 @@
+-- `schedule::finish_part` meets its contract.
+-- Assumes nothing.
+use mathlib.Core.Path.{refl}
+use Rattle.schedule.proofs.Building.{part-is, finish-is, lent-part}
+use Rattle.schedule.proofs.Ending.{written-as}
+use borrow.Author.Needs.{needs}
+use Rattle.schedule.proofs.finish_part.Statement.{statement}
+use Rattle.schedule.proofs.finish_part.Tie as tie
+use Rattle.schedule.proofs.finish_part.Reads as reads
+use Rattle.schedule.proofs.finish_part.Lts as lts
+use Rattle.schedule.proofs.finishing.complete.Reads as complete-reads
+
+add-end : tie.Need-add-end
+add-end c = search needs
+
+sub-last : tie.Need-sub-last
+sub-last c = search needs
+
+add-last : tie.Need-add-last
+add-last c = search needs
+
+mul-complete : tie.Need-mul-complete
+mul-complete c = search needs
+
+sub-complete : tie.Need-sub-complete
+sub-complete c = search needs
+
+part-complete-start : tie.Need-part-complete-start
+part-complete-start c = search needs
+
+part-complete-end : tie.Need-part-complete-end
+part-complete-end c = search needs
+
+sub-complete-2 : tie.Need-sub-complete-2
+sub-complete-2 c = search needs
+
+part-complete-start-2 : tie.Need-part-complete-start-2
+part-complete-start-2 c = search needs
+
+part-complete-end-2 : tie.Need-part-complete-end-2
+part-complete-end-2 c = search needs
+
+complete-requires : tie.Need-complete-requires
+complete-requires c κs =
+    let p = c .before .before .before .before .before .before .before .before .before .pre in
+    (p .0 .0, lent-part _ _ _ _ _ _ _ _ _ (p .0 .1) (p .0 .2) refl refl (p .1 .0 .0) (p .1 .0 .1) (p .1 .0 .2) (p .1 .1 .0) (p .1 .1 .1))
+
+same-length : tie.Need-same-length
+same-length c = search needs
+
+same-length-2 : tie.Need-same-length-2
+same-length-2 c = search needs
+
+same-length-3 : tie.Need-same-length-3
+same-length-3 c = search needs
+
+same-length-4 : tie.Need-same-length-4
+same-length-4 c = search needs
+
+returns : tie.Need-returns
+returns c =
+    let p = c .before .before .before .before .before .before .before .before .before .before .before .before .before .before .before .before .before .before .pre in
+    written-as _ _ _ _ _ _ _ _ (finish-is _ _ _ _ _ _ _ _ (part-is _ _ _ _ (p .0 .1) refl (p .1 .0 .1)) (part-is _ _ _ _ (p .0 .2) refl (p .1 .0 .2))) (c .before .before .before .before .before .before .before .before .complete .ensures)
+
+pub finish-part-spec : {M : Type 1} → statement M
+finish-part-spec =
+    tie.close
+    (tie.spec
+    add-end
+    sub-last
+    add-last
+    mul-complete
+    sub-complete
+    part-complete-start
+    part-complete-end
+    sub-complete-2
+    part-complete-start-2
+    part-complete-end-2
+    complete-requires
+    same-length
+    same-length-2
+    same-length-3
+    same-length-4
+    returns)

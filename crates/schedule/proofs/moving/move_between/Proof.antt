@@ -1,0 +1,42 @@
+-- `schedule::moving::move_between` meets its contract.
+-- Assumes nothing.
+use Rattle.schedule.proofs.Moves.{part-moved}
+use borrow.Author.Needs.{needs}
+use Rattle.schedule.proofs.moving.move_between.Statement.{statement}
+use Rattle.schedule.proofs.moving.move_between.Tie as tie
+use Rattle.schedule.proofs.moving.move_between.Reads as reads
+use Rattle.schedule.proofs.moving.move_between.Lts as lts
+use Rattle.schedule.proofs.moving.move_all.Reads as move-all-reads
+
+mul-move-all : tie.Need-mul-move-all
+mul-move-all c = search needs
+
+sub-move-all : tie.Need-sub-move-all
+sub-move-all c = search needs
+
+part-move-all-start : tie.Need-part-move-all-start
+part-move-all-start c = search needs
+
+part-move-all-end : tie.Need-part-move-all-end
+part-move-all-end c = search needs
+
+move-all-requires : tie.Need-move-all-requires
+move-all-requires c κs = search needs
+
+same-length : tie.Need-same-length
+same-length c = search needs
+
+returns : tie.Need-returns
+returns c = search (part-moved, needs)
+
+pub move-between-spec : {M : Type 1} → statement M
+move-between-spec =
+    tie.close
+    (tie.spec
+    mul-move-all
+    sub-move-all
+    part-move-all-start
+    part-move-all-end
+    move-all-requires
+    same-length
+    returns)

@@ -1,0 +1,40 @@
+-- The last steps of a build: what they are lent, and what they answer.
+-- Assumes nothing.
+use Prim.Native.Nat.{ℕ, _+_, _≤_}
+use mathlib.Core.Path.{_≡_}
+use mathlib.Core.List.{List}
+use lib.IntN.{pos}
+use lib.ListN.{length}
+use Rattle.refusal.specs.Answer.{Answer, given}
+use Rattle.period.specs.declared.Unit.the-variants.{Days}
+use Rattle.steps.specs.declared.Rule.the-variants.{Zero}
+use Rattle.steps.specs.declared.Request.{Request}
+use Rattle.steps.specs.declared.Built.{Built}
+use Rattle.steps.specs.Rules.{ruleInForce, tenorInForce}
+use Rattle.steps.specs.Finish.{Merged, mergeEnd, mergeFront}
+use Rattle.steps.specs.Build.{Schedule}
+
+-- the generated dates, the flags between them, and room for both
+pub record Lent (work marks dates flags : List ℕ) : Type 0 where
+  pub between : length work ≡ length marks + 1
+  pub most : length work ≤ 4096
+  pub fits : length work ≤ length dates
+  pub even : length dates ≡ length flags
+
+abbrev pub pair : List ℕ → List ℕ → Merged
+pair ds fs = record { dates = ds; flags = fs }
+
+-- the schedule of what the merges leave
+unfoldable pub scheduled : ℕ → Merged → Answer Schedule
+scheduled tries done = given (record { dates = done .dates; flags = done .flags; tries = tries })
+
+unfoldable pub merges : List ℕ → List ℕ → Answer Merged
+merges fs ds = mergeFront (mergeEnd ds fs)
+
+-- ---- the answer's record
+unfoldable pub refusedBuilt : ℕ → Built
+refusedBuilt n = record { number = n; count = 0; tries = 0; rule = Zero; tenor = record { length = pos 0; unit = Days } }
+
+unfoldable pub acceptedBuilt : Request → ℕ → ℕ → Built
+acceptedBuilt q count tries =
+    record { number = 0; count = count; tries = tries; rule = ruleInForce q; tenor = tenorInForce q }

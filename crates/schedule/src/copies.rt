@@ -1,0 +1,27 @@
+// The schedule copied out: laid over the start of what was lent, later places as they were.
+ghost use mathlib.Core.Path.{_≡_};
+ghost use Prim.Native.Nat.{_≤_};
+ghost use lib.ListN.{length};
+ghost use Rattle.steps.specs.Build.{over};
+
+pub(crate) fn copy_dates(src: &[u32], dst: &mut [u32])
+    requires { ⌜ length (now src) ≤ length (now dst) ⌝ }
+    ensures { λ _. ⌜ now (dst .exit) ≡ over (now (src .entry)) (now (dst .entry)) ⌝ }
+{
+    let mut i = 0;
+    while i < src.len() {
+        dst[i] = src[i];
+        i += 1;
+    }
+}
+
+pub(crate) fn copy_flags(src: &[u8], dst: &mut [u8])
+    requires { ⌜ length (now src) ≤ length (now dst) ⌝ }
+    ensures { λ _. ⌜ now (dst .exit) ≡ over (now (src .entry)) (now (dst .entry)) ⌝ }
+{
+    let mut i = 0;
+    while i < src.len() {
+        dst[i] = src[i];
+        i += 1;
+    }
+}

@@ -1,0 +1,140 @@
+// A build's last steps: third Wednesdays, adjustments, merges, and writing out.
+ghost use mathlib.Core.Path.{_≡_};
+ghost use mathlib.Core.Bool.{true};
+ghost use Rattle.refusal.specs.Answer.{then};
+ghost use Rattle.calendar.specs.Open.{closedOk};
+ghost use Rattle.steps.specs.Finish.{adjustments, mergeEnd, mergeFront, finish};
+ghost use Rattle.steps.specs.Build.{Written};
+ghost use Rattle.schedule.specs.Finishing.{refusedBuilt, acceptedBuilt, pair, scheduled, merges, Lent};
+use crate::Filled;
+use crate::adjusting;
+use crate::copies;
+use crate::merges;
+use crate::moving::Done;
+use period::Period;
+use period::Unit;
+use steps::Built;
+use steps::Request;
+use steps::Rule;
+use steps::rules;
+
+pub(crate) fn refused(n: u8) -> Built
+    ensures { λ r. ⌜ r ≡ refusedBuilt n ⌝ }
+{
+    Built {
+        number: n,
+        count: 0,
+        tries: 0,
+        rule: Rule::Zero,
+        tenor: Period {
+            length: 0,
+            unit: Unit::Days,
+        },
+    }
+}
+
+fn accepted(q: Request, count: u32, tries: u32) -> Built
+    ensures { λ r. ⌜ r ≡ acceptedBuilt q count tries ⌝ }
+{
+    Built {
+        number: 0,
+        count,
+        tries,
+        rule: rules::rule_in_force(q),
+        tenor: rules::tenor_in_force(q),
+    }
+}
+
+// The lists of the schedule, `work` and `marks`, written out.
+fn copy_out(
+    q: Request,
+    tries: u32,
+    work: &[u32],
+    marks: &[u8],
+    dates: &mut [u32],
+    flags: &mut [u8],
+) -> Built
+    requires { ⌜ Lent (now work) (now marks) (now dates) (now flags) ⌝ }
+    ensures { λ r. ⌜ Written q (scheduled tries (pair (now (work .entry)) (now (marks .entry)))) r (now (dates .entry)) (now (flags .entry)) (now (dates .exit)) (now (flags .exit)) ⌝ }
+{
+    copies::copy_dates(work, dates);
+    copies::copy_flags(marks, flags);
+    accepted(q, work.len() as u32, tries)
+}
+
+fn merge_front_and_copy(
+    q: Request,
+    tries: u32,
+    work: &mut [u32],
+    marks: &mut [u8],
+    dates: &mut [u32],
+    flags: &mut [u8],
+) -> Built
+    requires { ⌜ Lent (now work) (now marks) (now dates) (now flags) ⌝ }
+    ensures { λ r. ⌜ Written q (then (mergeFront (pair (now (work .entry)) (now (marks .entry)))) (scheduled tries)) r (now (dates .entry)) (now (flags .entry)) (now (dates .exit)) (now (flags .exit)) ⌝ }
+{
+    let start = merges::merge_front(work, marks);
+    match start {
+        Filled::Refused(n) => refused(n),
+        Filled::Ready(k) => copy_out(q, tries, &work[k..], &marks[k..], dates, flags),
+    }
+}
+
+fn merge_and_copy(
+    q: Request,
+    tries: u32,
+    work: &mut [u32],
+    marks: &mut [u8],
+    dates: &mut [u32],
+    flags: &mut [u8],
+) -> Built
+    requires { ⌜ Lent (now work) (now marks) (now dates) (now flags) ⌝ }
+    ensures { λ r. ⌜ Written q (then (mergeFront (mergeEnd (now (work .entry)) (now (marks .entry)))) (scheduled tries)) r (now (dates .entry)) (now (flags .entry)) (now (dates .exit)) (now (flags .exit)) ⌝ }
+{
+    let n = merges::merge_end(work, marks);
+    let e = n - 1;
+    merge_front_and_copy(q, tries, &mut work[..n], &mut marks[..e], dates, flags)
+}
+
+fn adjust_and_merge(
+    q: Request,
+    closed: &[u32],
+    seed: u32,
+    tries: u32,
+    work: &mut [u32],
+    marks: &mut [u8],
+    dates: &mut [u32],
+    flags: &mut [u8],
+) -> Built
+    requires { ⌜ closedOk (now closed) ≡ true ⌝ }
+    requires { ⌜ Lent (now work) (now marks) (now dates) (now flags) ⌝ }
+    ensures { λ r. ⌜ Written q (then (then (adjustments q (now (closed .entry)) seed (now (work .entry))) (merges (now (marks .entry)))) (scheduled tries)) r (now (dates .entry)) (now (flags .entry)) (now (dates .exit)) (now (flags .exit)) ⌝ }
+{
+    let moved = adjusting::adjust_dates(q, closed, seed, work);
+    match moved {
+        Done::Refused(n) => refused(n),
+        Done::Whole => merge_and_copy(q, tries, work, marks, dates, flags),
+    }
+}
+
+// From the generated dates, `work`, and the flags between them, `marks`, to what is answered and written out.
+pub(crate) fn complete(
+    q: Request,
+    closed: &[u32],
+    seed: u32,
+    tries: u32,
+    work: &mut [u32],
+    marks: &mut [u8],
+    dates: &mut [u32],
+    flags: &mut [u8],
+) -> Built
+    requires { ⌜ closedOk (now closed) ≡ true ⌝ }
+    requires { ⌜ Lent (now work) (now marks) (now dates) (now flags) ⌝ }
+    ensures { λ r. ⌜ Written q (then (finish q (now (closed .entry)) seed (now (work .entry)) (now (marks .entry))) (scheduled tries)) r (now (dates .entry)) (now (flags .entry)) (now (dates .exit)) (now (flags .exit)) ⌝ }
+{
+    let moved = adjusting::third_wednesdays(rules::rule_in_force(q), q.mask, closed, work);
+    match moved {
+        Done::Refused(n) => refused(n),
+        Done::Whole => adjust_and_merge(q, closed, seed, tries, work, marks, dates, flags),
+    }
+}

@@ -1,0 +1,54 @@
+// The dates of a build, by the rule in force.
+ghost use mathlib.Core.Path.{_≡_};
+ghost use Rattle.steps.specs.Generate.{zeroDates, generate};
+ghost use Rattle.schedule.specs.Part.{Part};
+ghost use Rattle.schedule.specs.Making.{Checked, Generates};
+use crate::Filled;
+use crate::Generated;
+use crate::backwards;
+use crate::forwards;
+use crate::openings;
+use steps::Request;
+use steps::rules;
+
+// Zero: the effective date and termination.
+fn zero_dates(q: Request, room: usize, work: &mut [u32], marks: &mut [u8]) -> Generated
+    requires { ⌜ Part room 0 (now work) (now marks) ⌝ }
+    ensures { λ r. ⌜ Generates room (zeroDates q room) r (now (work .exit)) (now (marks .exit)) ⌝ }
+{
+    let two = openings::put_two(true, room, q.termination.day, q.effective.day, work, marks);
+    match two {
+        Filled::Refused(k) => Generated::Refused(k),
+        Filled::Ready(n) => {
+            let from = 4096 - n;
+            Generated::Ready {
+                from,
+                marked: from,
+                n,
+                tries: 0,
+                seed: 0,
+            }
+        }
+    }
+}
+
+pub(crate) fn generate(
+    q: Request,
+    closed: &[u32],
+    room: usize,
+    work: &mut [u32],
+    marks: &mut [u8],
+) -> Generated
+    requires { ⌜ Checked q (now closed) ⌝ }
+    requires { ⌜ Part room 0 (now work) (now marks) ⌝ }
+    ensures { λ r. ⌜ Generates room (generate q (now (closed .entry)) room) r (now (work .exit)) (now (marks .exit)) ⌝ }
+{
+    let rule = rules::rule_in_force(q);
+    if rules::is_zero(rule) {
+        return zero_dates(q, room, work, marks);
+    }
+    if rules::is_backward(rule) {
+        return backwards::backward(q, closed, room, work, marks);
+    }
+    forwards::forward(q, closed, room, work, marks)
+}

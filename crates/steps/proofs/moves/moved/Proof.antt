@@ -1,0 +1,79 @@
+-- `steps::moves::moved` meets its contract.
+-- Assumes nothing.
+use Rattle.date.specs.Date.{dated}
+use Rattle.steps.specs.Finish.{moved}
+use borrow.Author.Needs.{needs}
+use Rattle.steps.proofs.moves.moved.Statement.{statement}
+use Rattle.steps.proofs.moves.moved.Tie as tie
+use Rattle.steps.proofs.moves.moved.Reads as reads
+use Rattle.steps.proofs.moves.moved.Lts as lts
+use Rattle.calendar.proofs.search.adjust.Reads as adjust-reads
+use Rattle.calendar.proofs.search.last_open.Reads as last-open-reads
+use Rattle.date.proofs.span.last_of_month.Reads as last-of-month-reads
+use Rattle.steps.proofs.moves.third_wednesday.Reads as third-wednesday-reads
+
+enum-told : tie.Need-enum-told
+enum-told c = search needs
+
+enum-told-2 : tie.Need-enum-told-2
+enum-told-2 c = search needs
+
+third-wednesday-requires : tie.Need-third-wednesday-requires
+third-wednesday-requires c κs = search needs
+
+enum-known-what : tie.Need-enum-known-what
+enum-known-what c = search needs
+
+adjust-requires : tie.Need-adjust-requires
+adjust-requires c κs = search needs
+
+enum-told-3 : tie.Need-enum-told-3
+enum-told-3 c = search needs
+
+last-of-month-requires : tie.Need-last-of-month-requires
+last-of-month-requires c κs = search needs
+
+enum-told-4 : tie.Need-enum-told-4
+enum-told-4 c = search needs
+
+last-open-requires : tie.Need-last-open-requires
+last-open-requires c κs = search needs
+
+returns : tie.Need-returns
+unfolding dated moved
+returns c = λ ok. cc
+
+returns-2 : tie.Need-returns-2
+unfolding moved
+returns-2 c = λ ok. cc
+
+returns-3 : tie.Need-returns-3
+unfolding moved
+returns-3 c = λ ok. cc (c .adjust .ensures ok)
+
+returns-4 : tie.Need-returns-4
+unfolding moved
+returns-4 c = λ ok. cc
+
+returns-5 : tie.Need-returns-5
+unfolding moved
+returns-5 c = λ ok. cc (c .last-open .ensures ok)
+
+pub moved-spec : {M : Type 1} → statement M
+moved-spec =
+    tie.close
+    (tie.spec
+    enum-told
+    enum-told-2
+    third-wednesday-requires
+    enum-known-what
+    adjust-requires
+    enum-told-3
+    last-of-month-requires
+    enum-told-4
+    last-open-requires
+    returns
+    returns-2
+    returns-3
+    returns-4
+    returns-5)

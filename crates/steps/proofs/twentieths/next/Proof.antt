@@ -1,0 +1,55 @@
+-- `steps::twentieths::next` meets its contract.
+-- Assumes nothing.
+use Rattle.refusal.specs.Laws.{then-given, then-refused}
+use Rattle.date.specs.Date.{dated}
+use Rattle.date.specs.Made.{given-day, refused-day}
+use Rattle.steps.specs.Twentieths.{nextTwentieth}
+use borrow.Author.Needs.{needs}
+use Rattle.steps.proofs.twentieths.next.Statement.{statement}
+use Rattle.steps.proofs.twentieths.next.Tie as tie
+use Rattle.steps.proofs.twentieths.next.Reads as reads
+use Rattle.steps.proofs.twentieths.next.Lts as lts
+use Rattle.steps.proofs.twentieths.moved_if.Reads as moved-if-reads
+use Rattle.steps.proofs.twentieths.on_to_imm_month.Reads as on-to-imm-month-reads
+use Rattle.steps.proofs.twentieths.twentieth_of.Reads as twentieth-of-reads
+
+twentieth-of-requires : tie.Need-twentieth-of-requires
+twentieth-of-requires c κs = search needs
+
+enum-known-twentieth : tie.Need-enum-known-twentieth
+enum-known-twentieth c = search needs
+
+moved-if-requires : tie.Need-moved-if-requires
+moved-if-requires c κs = search needs
+
+on-to-imm-month-requires : tie.Need-on-to-imm-month-requires
+on-to-imm-month-requires c κs = search needs
+
+enum-known-twentieth-2 : tie.Need-enum-known-twentieth-2
+enum-known-twentieth-2 c = search needs
+
+returns : tie.Need-returns
+unfolding nextTwentieth
+returns c =
+    let first = c .before .before .before .before .before .before .twentieth-of in
+    let day = c .before .before .before .before .twentieth .given .0 .0 in
+    then-given _ (day .day) _ _ (given-day (first .result) day _ (first .ensures) (cc)) (cc)
+
+returns-2 : tie.Need-returns-2
+unfolding dated nextTwentieth
+returns-2 c =
+    let first = c .before .before .before .twentieth-of in
+    let number = c .before .twentieth2 .given .0 .0 in
+    then-refused _ number _ (refused-day (first .result) number _ (first .ensures) (cc))
+
+pub next-spec : {M : Type 1} → statement M
+next-spec =
+    tie.close
+    (tie.spec
+    twentieth-of-requires
+    enum-known-twentieth
+    moved-if-requires
+    on-to-imm-month-requires
+    enum-known-twentieth-2
+    returns
+    returns-2)

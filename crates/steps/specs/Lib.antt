@@ -1,0 +1,10 @@
+pub mod Rules
+pub mod Table
+pub mod Rows
+pub mod TableLaws
+pub mod Twentieths
+pub mod Candidates
+pub mod Generate
+pub mod Finish
+pub mod Build
+pub mod Sums

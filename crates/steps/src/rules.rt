@@ -1,0 +1,152 @@
+// The groups of rules that the steps speak of, and the rule and the tenor in force.
+ghost use mathlib.Core.Path.{_≡_};
+ghost use Rattle.steps.specs.Rules.{isZero, isBackward, onTwentieths, inImmMonths, isCredit, isOldCDS, ruleInForce, tenorInForce, tenorUnder};
+use crate::Request;
+use crate::Rule;
+use crate::tenors;
+use period::Period;
+use period::Unit;
+
+pub fn is_zero(rule: Rule) -> bool
+    ensures { λ r. ⌜ r ≡ isZero rule ⌝ }
+{
+    match rule {
+        Rule::Zero => true,
+        Rule::Backward => false,
+        Rule::Forward => false,
+        Rule::Twentieth => false,
+        Rule::TwentiethIMM => false,
+        Rule::ThirdWednesday => false,
+        Rule::ThirdWednesdayInclusive => false,
+        Rule::OldCDS => false,
+        Rule::CDS => false,
+        Rule::CDS2015 => false,
+    }
+}
+
+pub fn is_backward(rule: Rule) -> bool
+    ensures { λ r. ⌜ r ≡ isBackward rule ⌝ }
+{
+    match rule {
+        Rule::Zero => false,
+        Rule::Backward => true,
+        Rule::Forward => false,
+        Rule::Twentieth => false,
+        Rule::TwentiethIMM => false,
+        Rule::ThirdWednesday => false,
+        Rule::ThirdWednesdayInclusive => false,
+        Rule::OldCDS => false,
+        Rule::CDS => false,
+        Rule::CDS2015 => false,
+    }
+}
+
+// The middle dates are twentieths.
+pub fn on_twentieths(rule: Rule) -> bool
+    ensures { λ r. ⌜ r ≡ onTwentieths rule ⌝ }
+{
+    match rule {
+        Rule::Zero => false,
+        Rule::Backward => false,
+        Rule::Forward => false,
+        Rule::Twentieth => true,
+        Rule::TwentiethIMM => true,
+        Rule::ThirdWednesday => false,
+        Rule::ThirdWednesdayInclusive => false,
+        Rule::OldCDS => true,
+        Rule::CDS => true,
+        Rule::CDS2015 => true,
+    }
+}
+
+// The twentieths are those of March, June, September and December.
+pub fn in_imm_months(rule: Rule) -> bool
+    ensures { λ r. ⌜ r ≡ inImmMonths rule ⌝ }
+{
+    match rule {
+        Rule::Zero => false,
+        Rule::Backward => false,
+        Rule::Forward => false,
+        Rule::Twentieth => false,
+        Rule::TwentiethIMM => true,
+        Rule::ThirdWednesday => false,
+        Rule::ThirdWednesdayInclusive => false,
+        Rule::OldCDS => true,
+        Rule::CDS => true,
+        Rule::CDS2015 => true,
+    }
+}
+
+// The dates start at the previous twentieth.
+pub fn is_credit(rule: Rule) -> bool
+    ensures { λ r. ⌜ r ≡ isCredit rule ⌝ }
+{
+    match rule {
+        Rule::Zero => false,
+        Rule::Backward => false,
+        Rule::Forward => false,
+        Rule::Twentieth => false,
+        Rule::TwentiethIMM => false,
+        Rule::ThirdWednesday => false,
+        Rule::ThirdWednesdayInclusive => false,
+        Rule::OldCDS => false,
+        Rule::CDS => true,
+        Rule::CDS2015 => true,
+    }
+}
+
+pub fn is_old_cds(rule: Rule) -> bool
+    ensures { λ r. ⌜ r ≡ isOldCDS rule ⌝ }
+{
+    match rule {
+        Rule::Zero => false,
+        Rule::Backward => false,
+        Rule::Forward => false,
+        Rule::Twentieth => false,
+        Rule::TwentiethIMM => false,
+        Rule::ThirdWednesday => false,
+        Rule::ThirdWednesdayInclusive => false,
+        Rule::OldCDS => true,
+        Rule::CDS => false,
+        Rule::CDS2015 => false,
+    }
+}
+
+// Length 0 forces Zero.
+pub fn rule_in_force(q: Request) -> Rule
+    ensures { λ r. ⌜ r ≡ ruleInForce q ⌝ }
+{
+    let tenor = q.tenor;
+    if tenors::is_none(tenor) {
+        return Rule::Zero;
+    }
+    q.rule
+}
+
+fn tenor_under(rule: Rule, tenor: Period) -> Period
+    ensures { λ r. ⌜ r ≡ tenorUnder rule tenor ⌝ }
+{
+    match rule {
+        Rule::Zero => Period {
+            length: 0,
+            unit: Unit::Years,
+        },
+        Rule::Backward => tenor,
+        Rule::Forward => tenor,
+        Rule::Twentieth => tenor,
+        Rule::TwentiethIMM => tenor,
+        Rule::ThirdWednesday => tenor,
+        Rule::ThirdWednesdayInclusive => tenor,
+        Rule::OldCDS => tenor,
+        Rule::CDS => tenor,
+        Rule::CDS2015 => tenor,
+    }
+}
+
+// Under Zero 0 years, else the tenor given.
+pub fn tenor_in_force(q: Request) -> Period
+    ensures { λ r. ⌜ r ≡ tenorInForce q ⌝ }
+{
+    let tenor = q.tenor;
+    tenor_under(rule_in_force(q), tenor)
+}

@@ -1,0 +1,317 @@
+#!/usr/bin/env python3
+"""Asks the Rust and the reference the same questions, and says where they differ.
+
+    oracle/compare.py random SEED BUILDS SMALL     that many random builds and small questions
+    oracle/compare.py systematic [KIND ..]         every day, month and code; a grid of builds
+
+A build is asked twice: for its list, and for its tries and the greatest length of its list. Every difference must be
+one of those that have a name here. The first that has none is printed and ends the run with status 1. The closing
+tables count outcomes, and give each name its smallest input. Names marked (shared) are of what the law takes over from
+the Rust.
+"""
+import itertools
+import os
+import subprocess
+import sys
+import time
+from collections import Counter
+
+import reference
+import requests
+from reference import Refused
+
+PROGRAM = os.path.join(os.path.dirname(os.path.abspath(__file__)), "..", "target", "oracle", "oracle")
+BATCH = 2000
+RULES = "Zero Backward Forward Twentieth TwentiethIMM ThirdWednesday ThirdWednesdayInclusive OldCDS CDS CDS2015".split()
+TODAY = 739252  # 2025-01-01, which smallest inputs are drawn to
+
+# Positions of dates among a question's words.
+DATES = {"build": (1, 2, 9, 10), "trace": (1, 2, 9, 10), "date": (2,), "nextdatecode": (3,), "nextcodecode": (3,),
+         "difference": (1, 2), "compare": (1, 2), "nth": (), "make": (), "times": (), "immcode": ()}
+# Where the calendar starts.
+CALENDAR = {"build": 11, "trace": 11, "adjust": 3, "monthend": 2, "ismonthend": 2, "advance": 6}
+
+
+def rust(lines, timeout=None):
+    done = subprocess.run([PROGRAM], input="\n".join(lines) + "\n", capture_output=True, text=True, timeout=timeout)
+    if done.returncode:
+        sys.exit(f"compare: the oracle stopped: {done.stderr.strip()}")
+    return done.stdout.split("\n")[:-1]
+
+
+class Differs(Exception):
+    """The answers differ in a way that has no name."""
+
+
+def stopped(number, words):
+    """The name of what 01 refuses on sight and the Rust takes."""
+    kind = words[0]
+    if number == 2:
+        days = [int(words[i]) for i in DATES.get(kind, (1,))]
+        if kind == "compare" and 0 in days:
+            return "no date sorts before every date"
+        if kind in ("build", "trace"):
+            days = days[:2] + [d for d in days[2:] if d]
+        if 0 in days:
+            return "no date is taken as a date"
+        if not all(map(reference.in_book, days)):
+            return "a date outside the book"
+        if kind in ("dateadvance", "nth", "make"):
+            return "a result outside 1800 to 2399"
+    if number == 3:
+        at = CALENDAR[kind]
+        if int(words[at]) & 127 == 127:
+            return "a calendar with all seven days closed"
+        if int(words[at + 1]) > 4096:
+            return "more than 4,096 closed dates"
+        return "closed dates out of order"
+    if number == 5 and kind != "times":
+        return "a tenor beyond the limits"
+    return None
+
+
+def judge_build(words, said, traced, sample):
+    """Outcome, and the names that the question falls under."""
+    line = " ".join(words)
+    names = []
+    ends = traced.split()
+    build = reference.read_build(reference.Words(" ".join(words[1:])))
+    try:
+        build.run(reference.PLACES)
+    except Refused as refused:
+        number = refused.number
+        if number in (2, 3, 5):
+            name = stopped(number, words)
+            return f"refused {number}", [f"{name}: the Rust's {said.split()[0]}"]
+        if number in (4, 6, 7, 8, 9, 10, 11, 12):
+            if said != "error" or traced != f"error {number}":
+                raise Differs(f"{traced}, refused {number}")
+            return f"refused {number} = error", []
+        if number == 13:
+            if said != "closed" or ends[0] != "closed":
+                raise Differs(f"{said}, refused 13")
+            return "refused 13 = closed", ["a search that finds none of its 31 days open"]
+        if number == 14:
+            if ends[0] == "error" or int(ends[2]) <= reference.PLACES:
+                raise Differs(f"{traced}, refused 14")
+            wide = reference.answer(line, 10**9)
+            if said != wide and (wide, said) not in (("refused 13", "closed"), ("refused 15", "panic")):
+                raise Differs(f"{said}, without limit {wide}")
+            return "refused 14", ["a list of more than 4,096 dates"]
+        if said != "panic" or ends[0] != "panic":
+            raise Differs(f"{said}, refused {number}")
+        if build.termination < build.effective:
+            group = "Twentieth" if build.rule in (3, 4, 7, 8, 9) else RULES[build.rule]
+            return "refused 15 = panic", [f"reversed dates panic: {group}"]
+        return "refused 15 = panic", [f"a merge panics: {RULES[build.rule]}"]
+    given = " ".join(map(str, ["ok", build.rule, build.unit, build.length, len(build.dates), *build.dates,
+                               *map(int, build.flags)]))
+    if said != given or traced != f"ok {build.tries} {build.peak}":
+        raise Differs(f"{said} / {traced}, {given} / ok {build.tries} {build.peak}")
+    if sample:
+        for room, wanted in ((build.peak, given), (build.peak - 1, "refused 14")):
+            if reference.answer(line, room) != wanted:
+                raise Differs(f"room {room}")
+    steps = [b - a for a, b in zip(build.dates, build.dates[1:])]
+    if len(build.dates) == 1 and build.termination < build.effective:
+        names.append("(shared) reversed dates give one date")
+    if len(build.dates) > 1 and build.termination < build.effective:
+        names.append(f"(shared) reversed dates give two dates or more: {RULES[build.rule]}")
+    if any(s < 0 for s in steps):
+        names.append(f"(shared) a list out of order: {RULES[build.rule]}")
+    if any(s == 0 for s in steps):
+        names.append(f"(shared) a list that repeats a date: {RULES[build.rule]}")
+    if build.rule in (8, 9) and reference.civil(reference.previous_twentieth(build.effective, 8)).month % 3:
+        names.append("(shared) CDS starts off the public dates")
+    return "ok", names
+
+
+def judge_small(words, said):
+    kind, names = words[0], []
+    expected = reference.answer(" ".join(words))
+    if said == "unasked":
+        if expected != "0" and not expected.startswith("refused"):
+            raise Differs(f"{said}, {expected}")
+        return "unasked", []
+    if kind == "advance" and words[3] == "0" and not expected.startswith("refused"):
+        calendar = reference.Words(" ".join(words[6:])).calendar()
+        try:
+            if str(calendar.adjust(int(words[1]), int(words[4]))) != said:
+                names.append(f"calendar advance by 0 against 01's words: {words[2]}")
+        except Refused:
+            names.append(f"calendar advance by 0 against 01's words: {words[2]}, 13")
+    if kind == "prev20" and said == expected and int(words[2]) in (4, 7, 8, 9) and reference.civil(int(said)).month % 3:
+        names.append("(shared) the previous twentieth off the public dates")
+    if said == expected:
+        return "same", names
+    if expected.startswith("refused"):
+        number = int(expected.split()[1])
+        if number == 13 and said == "closed":
+            return "refused 13 = closed", ["a search that finds none of its 31 days open"]
+        name = stopped(number, words)
+        if name and not (number == 2 and said in ("panic", "error")):
+            return f"refused {number}", [f"{name}: {kind}"]
+        if said in ("panic", "error") and number in (2, 5, 16):
+            return f"refused {number} = {said}", []
+        if number == 16 and kind in ("date", "nextdatecode", "nextcodecode") and len(words[1]) > 4:
+            return "refused 16", [f"a code of three bytes or more is taken: {kind}"]
+    if kind == "immcode" and said == "panic" and expected == "0" and int(words[1][:2], 16) > 127 and len(words[1]) == 4:
+        return "no = panic", ["a two-byte letter stops the code check"]
+    raise Differs(f"{said}, {expected}")
+
+
+def size(line):
+    """Smaller for fewer words, smaller fields, and dates near to today and each other."""
+    words = line.split()
+    kind = words[0]
+    at = CALENDAR.get(kind)
+    closed = int(words[at + 1]) if at else 0
+    mask = int(words[at]).bit_count() if at else 0
+    if kind in ("build", "trace"):
+        start, end = int(words[1]), int(words[2])
+        fields = sum(w != "0" for w in words[6:11])
+        return closed, mask, fields, abs(int(words[4])), abs(end - start), abs(start - TODAY), line
+    numbers = [abs(int(w)) if i not in DATES.get(kind, (1,)) else abs(int(w) - TODAY) if int(w) else 0
+               for i, w in enumerate(words[:at]) if w.lstrip("-").isdigit()]
+    return closed, mask, len(line) if at is None else 0, sum(numbers), line
+
+
+def smaller(line):
+    """Questions one step smaller."""
+    words = line.split()
+    kind = words[0]
+    tries = []
+
+    def with_word(i, value):
+        if words[i] != str(value):
+            tries.append([*words[:i], str(value), *words[i + 1:]])
+
+    at = CALENDAR.get(kind)
+    if at:
+        closed = words[at + 2:]
+        for piece in {len(closed), len(closed) // 2, 1} - {0}:
+            for start in range(0, len(closed), piece) if piece > 1 or len(closed) < 80 else ():
+                left = closed[:start] + closed[start + piece:]
+                tries.append([*words[:at + 1], str(len(left)), *left])
+        with_word(at, 0)
+        with_word(at, 96)
+    if kind in ("build", "trace") and all(reference.in_book(int(words[i])) for i in (1, 2)):
+        for i in range(6, 11):
+            with_word(i, 0)
+        length, start, end = int(words[4]), int(words[1]), int(words[2])
+        for value in {1, length // 2, length - 1}:
+            if abs(value) < abs(length):
+                with_word(4, value)
+        for value in {start + (end - start) // 2, end - (end > start) + (end < start), start + (end - start) * 9 // 10}:
+            with_word(2, value)
+        if TODAY - start:
+            shift = TODAY - start
+            for move in {shift, shift // 2, shift // 146097 * 146097}:
+                moved = list(words)
+                for i in (*DATES[kind], *range(13, len(words))):
+                    if int(moved[i]):
+                        moved[i] = str(int(moved[i]) + move)
+                tries.append(moved)
+    elif kind not in ("build", "trace"):
+        for i in DATES.get(kind, (1,)):
+            for value in (TODAY, TODAY + 30, (int(words[i]) + TODAY) // 2):
+                if int(words[i]):
+                    with_word(i, value)
+        if at and int(words[1]) and TODAY - int(words[1]):
+            for move in {TODAY - int(words[1]), (TODAY - int(words[1])) // 2}:
+                tries.append([words[0], str(int(words[1]) + move), *words[2:at + 2],
+                              *(str(int(c) + move) for c in words[at + 2:])])
+    mine = size(line)
+    return sorted({t for t in map(" ".join, tries) if size(t) < mine}, key=size)
+
+
+def cut(text):
+    return text if len(text) <= 200 else text[:200] + " .."
+
+
+class Run:
+    def __init__(self):
+        self.outcomes, self.names, self.small = Counter(), Counter(), {}
+        self.asked, self.start = Counter(), time.time()
+
+    def judged(self, lines, sample=False, timeout=None):
+        """Outcome and names of each line; raises on a difference without a name."""
+        asked = list(lines)
+        traces = ["trace" + line[5:] for line in asked if line.startswith("build ")]
+        said = rust(asked + traces, timeout)
+        traced = iter(said[len(asked):])
+        for i, line in enumerate(asked):
+            words = line.split()
+            try:
+                if words[0] == "build":
+                    yield line, *judge_build(words, said[i], next(traced), sample and i % 10 == 0)
+                else:
+                    yield line, *judge_small(words, said[i])
+            except Differs as differs:
+                raise Differs(f"{line}\n    {differs}") from None
+
+    def compare(self, questions):
+        questions = iter(questions)
+        while batch := list(itertools.islice(questions, BATCH)):
+            for line, outcome, names in self.judged(batch, True):
+                words = line.split(None, 6)
+                kind = words[0]
+                self.asked[kind] += 1
+                row = f"build {RULES[int(words[5])]}" if kind == "build" else kind
+                self.outcomes[row, outcome] += 1
+                for name in names:
+                    self.names[name] += 1
+                    if name not in self.small or size(line) < size(self.small[name]):
+                        self.small[name] = line
+            total = sum(self.asked.values())
+            if total % 200000 == 0:
+                print(f"{total} questions, {self.asked['build']} of them builds, {time.time() - self.start:.0f} s",
+                      file=sys.stderr, flush=True)
+
+    def shrink(self, name):
+        line, end = self.small[name], time.time() + 2
+        while time.time() < end:
+            tries = smaller(line)[:60]
+            if not tries:
+                break
+            try:
+                line = next(t for t, _, names in self.judged(tries, timeout=1) if name in names)
+            except (Differs, StopIteration, subprocess.TimeoutExpired):
+                break
+        return line
+
+    def report(self):
+        print("kind, outcome (Heronspan's law = the Rust), questions")
+        for (row, outcome), count in sorted(self.outcomes.items()):
+            print(f"  {row:34} {outcome:24} {count:9}")
+        print("differences by name, times met, smallest input")
+        for name in sorted(self.names):
+            line = self.shrink(name)
+            print(f"  {name}: {self.names[name]}")
+            print(f"      {cut(line)} -> {cut(rust([line])[0])} | {cut(reference.answer(line))}")
+        builds, total = self.asked["build"], sum(self.asked.values())
+        print(f"{builds} builds and {total - builds} small questions in {time.time() - self.start:.0f} s: "
+              "no difference without a name")
+
+
+def main():
+    args = sys.argv[1:]
+    if len(args) == 4 and args[0] == "random":
+        builds = requests.random_questions(f"{args[1]} builds", int(args[2]), ["build"])
+        small = requests.random_questions(f"{args[1]} small", int(args[3]), requests.SMALL)
+        questions = itertools.chain(builds, small)
+    elif args[:1] == ["systematic"] and set(args[1:]) <= set(requests.SYSTEMATIC):
+        questions = requests.systematic_questions(args[1:])
+    else:
+        sys.exit(__doc__.strip())
+    run = Run()
+    try:
+        run.compare(questions)
+    except Differs as differs:
+        print(f"differs: {differs}")
+        sys.exit(1)
+    run.report()
+
+
+if __name__ == "__main__":
+    main()

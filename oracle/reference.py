@@ -1,0 +1,557 @@
+#!/usr/bin/env python3
+"""Document 01's steps, with the decisions of docs/DECISIONS.md, as a third opinion beside the Rust and Heronspan.
+
+    oracle/reference.py [--room N] < questions > answers
+
+Reads the questions that target/oracle/oracle reads and prints one answer a line: what the function gives, in the same
+words, or `refused` and the number. Dates are day numbers, 1 is 0001-01-01; Python's own calendar splits them.
+"""
+import sys
+from datetime import date as Civil
+from functools import lru_cache
+
+FIRST_OF_BOOK, LAST_OF_BOOK = 693961, 803168
+FIRST_OF_SPAN, LAST_OF_SPAN = 657072, 876216
+PLACES = 4096
+SEARCH = 31
+
+BOOK, CALENDAR, NEGATIVE, TENOR = 2, 3, 4, 5
+FIRST_RANGE, FIRST_IMM, FIRST_RULE = 6, 7, 8
+LAST_RANGE, LAST_IMM, LAST_RULE = 9, 10, 11
+MONTHEND, CLOSED, ROOM, COLLAPSED, CODE = 12, 13, 14, 15, 16
+
+ZERO, BACKWARD, FORWARD, TWENTIETH, TWENTIETH_IMM, WEDNESDAY, WEDNESDAY_ALL, OLD_CDS, CDS, CDS2015 = range(10)
+UNADJUSTED, FOLLOWING, MODIFIED_FOLLOWING, PRECEDING, MODIFIED_PRECEDING = range(5)
+
+LIMITS = {"D": 366, "W": 520, "M": 1200, "Y": 100}
+LETTERS = "FGHJKMNQUVXZ"
+
+
+class Refused(Exception):
+    def __init__(self, number):
+        self.number = number
+
+
+def need(holds, number):
+    if not holds:
+        raise Refused(number)
+
+
+# Days
+
+civil = lru_cache(maxsize=1 << 17)(Civil.fromordinal)
+
+
+def in_book(day):
+    return FIRST_OF_BOOK <= day <= LAST_OF_BOOK
+
+
+def within_span(day):
+    need(FIRST_OF_SPAN <= day <= LAST_OF_SPAN, BOOK)
+    return day
+
+
+def weekday(day):
+    """Monday 1 to Sunday 7."""
+    return (day - 1) % 7 + 1
+
+
+def leap(year):
+    return year % 4 == 0 and (year % 100 != 0 or year % 400 == 0)
+
+
+def month_length(year, month):
+    if month == 2:
+        return 29 if leap(year) else 28
+    return 30 if month in (4, 6, 9, 11) else 31
+
+
+def make(year, month, day):
+    need(1800 <= year <= 2399 and 1 <= month <= 12 and 1 <= day <= month_length(year, month), BOOK)
+    return Civil(year, month, day).toordinal()
+
+
+def last_of_month(day):
+    d = civil(day)
+    return day - d.day + month_length(d.year, d.month)
+
+
+def add_months(day, count):
+    d = civil(day)
+    months = 12 * d.year + d.month - 1 + count
+    year, month = months // 12, months % 12 + 1
+    need(1800 <= year <= 2399, BOOK)
+    return Civil(year, month, min(d.day, month_length(year, month))).toordinal()
+
+
+def add(day, unit, count):
+    if unit == "D":
+        return within_span(day + count)
+    if unit == "W":
+        return within_span(day + 7 * count)
+    return within_span(add_months(day, count if unit == "M" else 12 * count))
+
+
+def nth_weekday(n, wanted, month, year):
+    need(1 <= wanted <= 7 and n >= 1, BOOK)
+    first = make(year, month, 1)
+    day = first + (wanted - weekday(first)) % 7 + 7 * (n - 1)
+    need(day <= last_of_month(first), BOOK)
+    return day
+
+
+def next_weekday(day, wanted):
+    need(in_book(day) and 1 <= wanted <= 7, BOOK)
+    return day + (wanted - weekday(day)) % 7
+
+
+# Calendars
+
+class Calendar:
+    """Weekly closed days as a mask, and closed dates as they were given."""
+
+    def __init__(self, mask, closed):
+        self.mask, self.closed = mask & 127, closed
+        self.shut = frozenset(closed)
+
+    def check(self):
+        closed = self.closed
+        need(self.mask != 127, CALENDAR)
+        need(len(closed) <= PLACES and all(a < b for a, b in zip(closed, closed[1:])), CALENDAR)
+        need(not closed or FIRST_OF_SPAN <= closed[0] and closed[-1] <= LAST_OF_SPAN, CALENDAR)
+
+    def open(self, day):
+        return not self.mask >> (day - 1) % 7 & 1 and day not in self.shut
+
+    def search(self, day, step):
+        """The first open day of the thirty-one that start at the day."""
+        for _ in range(SEARCH):
+            if self.open(day):
+                return within_span(day)
+            day += step
+        raise Refused(CLOSED)
+
+    def adjust(self, day, convention):
+        if convention == UNADJUSTED:
+            return day
+        step = 1 if convention in (FOLLOWING, MODIFIED_FOLLOWING) else -1
+        found = self.search(day, step)
+        if convention in (MODIFIED_FOLLOWING, MODIFIED_PRECEDING) and civil(found).month != civil(day).month:
+            return self.search(day, -step)
+        return found
+
+    def month_end(self, day):
+        return self.adjust(last_of_month(day), PRECEDING)
+
+    def at_month_end(self, day):
+        return civil(self.adjust(day + 1, FOLLOWING)).month != civil(day).month
+
+    def advance(self, day, unit, length, convention, month_end):
+        if unit == "D":
+            if not self.mask and not self.shut:
+                return within_span(day + length)
+            step = 1 if length > 0 else -1
+            for _ in range(abs(length)):
+                day = self.search(day + step, step)
+            return day
+        moved = add(day, unit, length)
+        if month_end and unit != "W" and self.at_month_end(day):
+            return self.month_end(moved)
+        return self.adjust(moved, convention)
+
+
+NULL = Calendar(0, ())
+
+
+# IMM
+
+def is_imm(day, main):
+    d = civil(day)
+    return weekday(day) == 3 and 15 <= d.day <= 21 and (not main or d.month % 3 == 0)
+
+
+def third_wednesday(year, month):
+    return nth_weekday(3, 3, month, year)
+
+
+def next_imm(day, main):
+    """The earliest IMM date strictly later."""
+    d = civil(day)
+    year, month = d.year, d.month
+    while True:
+        if not main or month % 3 == 0:
+            found = third_wednesday(year, month)
+            if found > day:
+                return found
+        year, month = (year + 1, 1) if month == 12 else (year, month + 1)
+
+
+def imm_code(day):
+    need(is_imm(day, False), CODE)
+    d = civil(day)
+    return LETTERS[d.month - 1] + str(d.year % 10)
+
+
+def split_code(code):
+    """The month and the last digit of the year that two bytes name."""
+    need(len(code) == 2, CODE)
+    letter, digit = chr(code[0]).upper() if code[0] < 128 else "", code[1] - 48
+    need(letter and letter in LETTERS and 0 <= digit <= 9, CODE)
+    return LETTERS.index(letter) + 1, digit
+
+
+def imm_date(code, reference):
+    """The earliest on or after the reference with that month and last digit of the year."""
+    need(in_book(reference), BOOK)
+    month, digit = split_code(code)
+    year = civil(reference).year
+    while year % 10 != digit or third_wednesday(year, month) < reference:
+        year += 1
+    return third_wednesday(year, month)
+
+
+def is_imm_code(code, main):
+    try:
+        month, _ = split_code(code)
+    except Refused:
+        return False
+    return not main or month % 3 == 0
+
+
+# Twentieths
+
+def next_twentieth(day, rule):
+    d = civil(day)
+    found = add_months(make(d.year, d.month, 20), 0 if d.day <= 20 else 1)
+    if rule in (TWENTIETH_IMM, OLD_CDS, CDS, CDS2015):
+        found = add_months(found, -civil(found).month % 3)
+    return found
+
+
+def previous_twentieth(day, rule):
+    """As the Rust: two months back from a month with remainder 1 by three, one from remainder 2."""
+    d = civil(day)
+    found = add_months(make(d.year, d.month, 20), 0 if d.day >= 20 else -1)
+    if rule in (TWENTIETH_IMM, OLD_CDS, CDS, CDS2015):
+        found = add_months(found, -(-civil(found).month % 3))
+    return found
+
+
+# Schedules
+
+class Build:
+    def __init__(self, effective, termination, unit, length, rule, convention, terminal, month_end, first, penultimate,
+                 calendar):
+        self.effective, self.termination = effective, termination
+        self.unit, self.length = unit, length
+        self.rule, self.convention, self.terminal = rule, convention, terminal
+        self.month_end, self.first, self.penultimate = month_end, first, penultimate
+        self.calendar = calendar
+        self.dates, self.flags, self.tries, self.room, self.peak = [], [], 0, PLACES, 0
+
+    def check(self):
+        """Refusals 2 to 12, in order; the rule in force."""
+        need(in_book(self.effective) and in_book(self.termination), BOOK)
+        need(self.first == 0 or in_book(self.first), BOOK)
+        need(self.penultimate == 0 or in_book(self.penultimate), BOOK)
+        self.calendar.check()
+        need(self.length >= 0, NEGATIVE)
+        need(self.length <= LIMITS[self.unit], TENOR)
+        if self.length == 0:
+            self.rule = ZERO
+        rule, start, end = self.rule, self.effective, self.termination
+        plain = rule in (BACKWARD, FORWARD)
+        if self.first:
+            need(not plain or start < self.first <= end, FIRST_RANGE)
+            need(rule != WEDNESDAY or is_imm(self.first, False), FIRST_IMM)
+            need(plain or rule == WEDNESDAY, FIRST_RULE)
+        if self.penultimate:
+            need(not plain or start < self.penultimate < end, LAST_RANGE)
+            need(rule != WEDNESDAY or is_imm(self.penultimate, False), LAST_IMM)
+            need(plain or rule == WEDNESDAY, LAST_RULE)
+        need(not self.month_end or rule in (ZERO, BACKWARD, FORWARD), MONTHEND)
+
+    def run(self, room):
+        self.check()
+        self.room = room
+        if self.rule == ZERO:
+            self.unit, self.length = "Y", 0
+            self.put(self.effective)
+            self.put(self.termination, True)
+            seed = None
+        elif self.rule == BACKWARD:
+            seed = self.backward()
+        else:
+            seed = self.forward()
+        self.move(seed)
+        self.merge()
+
+    # The list grows at its end in this order; a backward build turns it round when it is done.
+
+    def put(self, day, flag=None):
+        need(len(self.dates) < self.room, ROOM)
+        self.dates.append(day)
+        self.peak = len(self.dates)
+        if flag is not None:
+            self.flags.append(flag)
+
+    def put_unless_same(self, day, flag, convention):
+        adjust = self.calendar.adjust
+        if adjust(self.dates[-1], convention) != adjust(day, convention):
+            self.put(day, flag)
+
+    def candidate(self, seed, count):
+        return NULL.advance(seed, self.unit, self.length * count, UNADJUSTED, self.month_end)
+
+    def candidates(self, seed, sign, exit_date):
+        """Puts the seed plus or minus 1, 2, 3 .. tenors, up to the first beyond the exit date."""
+        while True:
+            self.tries += 1
+            day = self.candidate(seed, sign * self.tries)
+            if sign * (day - exit_date) > 0:
+                return
+            self.put_unless_same(day, True, self.convention)
+
+    def backward(self):
+        seed = self.termination
+        self.put(seed)
+        if self.penultimate:
+            self.put(self.penultimate)
+            self.flags.append(self.candidate(seed, -1) == self.penultimate)
+            seed = self.penultimate
+        self.candidates(seed, -1, self.first or self.effective)
+        if self.first:
+            self.put_unless_same(self.first, False, self.convention)
+        self.put_unless_same(self.effective, False, self.convention)
+        self.dates.reverse()
+        self.flags.reverse()
+        return seed
+
+    def forward(self):
+        rule, start = self.rule, self.effective
+        twentieths = rule in (TWENTIETH, TWENTIETH_IMM, OLD_CDS, CDS, CDS2015)
+        if rule in (CDS, CDS2015):
+            back = previous_twentieth(start, rule)
+            if self.calendar.adjust(back, self.convention) > start:
+                self.put(add_months(back, -3))
+                self.put(back, True)
+            else:
+                self.put(back)
+        else:
+            self.put(start)
+        seed = self.dates[-1]
+        if self.first:
+            self.put(self.first)
+            reached = self.calendar.advance(seed, self.unit, self.length, self.convention, self.month_end)
+            self.flags.append(reached == self.first)
+            seed = self.first
+        elif twentieths:
+            day = next_twentieth(start, rule)
+            if rule == OLD_CDS and day - start < 30:
+                day = next_twentieth(day + 1, rule)
+            if day != start:
+                self.put(day, rule in (CDS, CDS2015))
+                seed = day
+        self.candidates(seed, 1, self.penultimate or self.termination)
+        if self.penultimate:
+            self.put_unless_same(self.penultimate, False, self.convention)
+        adjust = self.calendar.adjust
+        if adjust(self.dates[-1], self.terminal) != adjust(self.termination, self.terminal):
+            if twentieths:
+                self.put(next_twentieth(self.termination, rule), True)
+            else:
+                self.put(self.termination, False)
+        return seed
+
+    def move(self, seed):
+        """Third Wednesdays, first date, last date, middle dates."""
+        dates, calendar = self.dates, self.calendar
+        middle = range(1, len(dates) - 1)
+        for i in {WEDNESDAY: middle, WEDNESDAY_ALL: range(len(dates))}.get(self.rule, ()):
+            d = civil(dates[i])
+            dates[i] = third_wednesday(d.year, d.month)
+        if self.rule != OLD_CDS:
+            dates[0] = calendar.adjust(dates[0], self.convention)
+        if self.rule not in (CDS, CDS2015):
+            dates[-1] = calendar.adjust(dates[-1], self.terminal)
+        ends = self.month_end and seed is not None and calendar.at_month_end(seed)
+        for i in middle:
+            if not ends:
+                dates[i] = calendar.adjust(dates[i], self.convention)
+            elif self.convention == UNADJUSTED:
+                dates[i] = last_of_month(dates[i])
+            else:
+                dates[i] = calendar.month_end(dates[i])
+
+    def merge(self):
+        dates, flags = self.dates, self.flags
+        if len(dates) >= 2 and dates[-2] >= dates[-1]:
+            if len(flags) >= 2:
+                flags[-2] = dates[-2] == dates[-1]
+            del dates[-2]
+            del flags[-1]
+            need(len(dates) != 2 or dates[1] > dates[0], COLLAPSED)
+        if len(dates) >= 2 and dates[1] <= dates[0]:
+            flags[1] = dates[1] == dates[0]
+            del dates[1]
+            del flags[0]
+
+
+# Questions
+
+class Words:
+    def __init__(self, line):
+        self.words = line.split()
+        self.at = 0
+
+    def word(self):
+        self.at += 1
+        return self.words[self.at - 1]
+
+    def number(self):
+        return int(self.word())
+
+    def book(self):
+        day = self.number()
+        need(in_book(day), BOOK)
+        return day
+
+    def bytes(self):
+        word = self.word()
+        return b"" if word == "-" else bytes.fromhex(word)
+
+    def calendar(self):
+        mask, count = self.number(), self.number()
+        closed = tuple(map(int, self.words[self.at:self.at + count]))
+        self.at += count
+        return Calendar(mask, closed)
+
+
+def read_build(w):
+    return Build(w.number(), w.number(), w.word(), w.number(), w.number(), w.number(), w.number(), w.number(),
+                 w.number(), w.number(), w.calendar())
+
+
+def ask_build(w, room):
+    b = read_build(w)
+    b.run(room)
+    return " ".join(map(str, ["ok", b.rule, b.unit, b.length, len(b.dates), *b.dates, *map(int, b.flags)]))
+
+
+def ask_trace(w, room):
+    b = read_build(w)
+    b.run(room)
+    return f"ok {b.tries} {b.peak}"
+
+
+def ask_adjust(w):
+    day, convention, calendar = w.book(), w.number(), w.calendar()
+    calendar.check()
+    return calendar.adjust(day, convention)
+
+
+def ask_monthend(w):
+    day, calendar = w.book(), w.calendar()
+    calendar.check()
+    return calendar.month_end(day)
+
+
+def ask_ismonthend(w):
+    day, calendar = w.number(), w.calendar()
+    need(day == 0 or in_book(day), BOOK)
+    calendar.check()
+    return int(day != 0 and calendar.at_month_end(day))
+
+
+def ask_advance(w):
+    day, unit, length, convention, month_end = w.book(), w.word(), w.number(), w.number(), w.number()
+    calendar = w.calendar()
+    calendar.check()
+    need(abs(length) <= LIMITS[unit], TENOR)
+    return calendar.advance(day, unit, length, convention, month_end)
+
+
+def ask_nextdatecode(w):
+    code, main, day = w.bytes(), w.number(), w.number()
+    return next_imm(imm_date(code, day), main)
+
+
+def ask_nextcodecode(w):
+    return imm_code(ask_nextdatecode(w))
+
+
+def ask_nth(w):
+    n, wanted, month, year = w.number(), w.number(), w.number(), w.number()
+    need(1800 <= year <= 2399 and 1 <= month <= 12, BOOK)
+    return nth_weekday(n, wanted, month, year)
+
+
+def ask_fields(w):
+    day = w.book()
+    d = civil(day)
+    return f"{d.year} {d.month} {d.day} {weekday(day)}"
+
+
+def ask_compare(w):
+    a, b = w.book(), w.book()
+    return (a > b) - (a < b)
+
+
+def ask_times(w):
+    unit, length, count = w.word(), w.number(), w.number()
+    need(-2**31 <= length * count < 2**31, TENOR)
+    return f"{unit} {length * count}"
+
+
+ASK = {
+    "adjust": ask_adjust,
+    "monthend": ask_monthend,
+    "ismonthend": ask_ismonthend,
+    "advance": ask_advance,
+    "next20": lambda w: next_twentieth(w.book(), w.number()),
+    "prev20": lambda w: previous_twentieth(w.book(), w.number()),
+    "immdate": lambda w: int(is_imm(w.book(), w.number())),
+    "immcode": lambda w: int(is_imm_code(w.bytes(), w.number())),
+    "code": lambda w: imm_code(w.book()),
+    "date": lambda w: imm_date(w.bytes(), w.number()),
+    "nextdate": lambda w: next_imm(w.book(), w.number()),
+    "nextdatecode": ask_nextdatecode,
+    "nextcode": lambda w: imm_code(next_imm(w.book(), w.number())),
+    "nextcodecode": ask_nextcodecode,
+    "dateadvance": lambda w: add(w.book(), w.word(), w.number()),
+    "nth": ask_nth,
+    "nextweekday": lambda w: next_weekday(w.number(), w.number()),
+    "dmonthend": lambda w: last_of_month(w.book()),
+    "make": lambda w: make(w.number(), w.number(), w.number()),
+    "fields": ask_fields,
+    "difference": lambda w: w.book() - w.book(),
+    "compare": ask_compare,
+    "times": ask_times,
+}
+
+
+def answer(line, room=PLACES):
+    w = Words(line)
+    kind = w.word()
+    try:
+        if kind == "build":
+            return ask_build(w, room)
+        if kind == "trace":
+            return ask_trace(w, room)
+        return str(ASK[kind](w))
+    except Refused as refused:
+        return f"refused {refused.number}"
+
+
+def main():
+    room = PLACES
+    if sys.argv[1:2] == ["--room"] and len(sys.argv) == 3:
+        room = min(int(sys.argv[2]), PLACES)
+    elif sys.argv[1:]:
+        sys.exit("usage: reference.py [--room N] < questions > answers")
+    for line in sys.stdin:
+        print(answer(line, room))
+
+
+if __name__ == "__main__":
+    main()
