@@ -11,21 +11,23 @@ BOOK = (date(1901, 1, 1), date(2199, 12, 31))
 REFUSED = 2
 
 
-def day_number(day, within=SPAN):
-    return day.toordinal() if within[0] <= day <= within[1] else REFUSED
-
-
 def after_days(day, count):
-    n = day.toordinal() + count
-    return n if SPAN[0].toordinal() <= n <= SPAN[1].toordinal() else REFUSED
+    return within(day.toordinal() + count)
+
+
+def in_month(index, day):
+    year, month = index // 12, index % 12 + 1
+    if not 1800 <= year <= 2399 or day < 1:
+        return REFUSED
+    return date(year, month, min(day, calendar.monthrange(year, month)[1])).toordinal()
 
 
 def after_months(day, count):
-    index = 12 * day.year + day.month - 1 + count
-    year, month = index // 12, index % 12 + 1
-    if not 1800 <= year <= 2399:
-        return REFUSED
-    return date(year, month, min(day.day, calendar.monthrange(year, month)[1])).toordinal()
+    return in_month(12 * day.year + day.month - 1 + count, day.day)
+
+
+def within(n):
+    return n if SPAN[0].toordinal() <= n <= SPAN[1].toordinal() else REFUSED
 
 
 def next_weekday(day, weekday):
@@ -49,6 +51,9 @@ def values(day):
     yield after_months(day, n % 30)
     yield after_months(day, -(n % 30))
     yield after_months(day, -12 * (n % 5))
+    yield in_month(n % 30000, n % 32)
+    yield in_month(n % 30000 + (-(n % 400) if n % 2 == 0 else n % 400), n % 32)
+    yield within(n % 300000 + 600000)
     if BOOK[0] <= day <= BOOK[1]:
         yield from (day.year, day.month, day.day, day.isoweekday(), month_end.toordinal())
         yield next_weekday(day, n % 9) if 1 <= n % 9 <= 7 else REFUSED

@@ -71,6 +71,16 @@ fn fold_civil(digest: u32, n: u32) -> u32 {
     )
 }
 
+// Months that are counted from, before 1800 and after 2399 too, and days on both sides of the span's ends.
+fn fold_months(digest: u32, n: u32) -> u32 {
+    let a = fold(digest, day_of(span::in_month((n % 30000) as u64, n % 32)));
+    let b = fold(
+        a,
+        day_of(span::months_from(n % 30000, n % 2 == 0, n % 400, n % 32)),
+    );
+    fold(b, day_of(span::within((n % 300000 + 600000) as u64)))
+}
+
 fn fold_span(digest: u32, n: u32) -> u32 {
     let a = fold(
         digest,
@@ -79,7 +89,10 @@ fn fold_span(digest: u32, n: u32) -> u32 {
     let b = fold(a, day_of(span::shift_by(n, true, n % 60, Unit::Weeks)));
     let c = fold(b, day_of(span::shift_by(n, false, n % 30, Unit::Months)));
     let d = fold(c, day_of(span::shift_by(n, true, n % 30, Unit::Months)));
-    fold(d, day_of(span::shift_by(n, true, n % 5, Unit::Years)))
+    fold_months(
+        fold(d, day_of(span::shift_by(n, true, n % 5, Unit::Years))),
+        n,
+    )
 }
 
 // Functions that refuse a day outside the book.
