@@ -1,45 +1,37 @@
 -- A law for each way through a backward build.
 -- Assumes nothing.
-use mathlib.Core.Path.{_≡_, refl, ap, sym, _∙_}
-use mathlib.Core.Bool.{Bool, true, false, not}
-use mathlib.Core.List.{List, []}
-use Prim.Native.Nat.{ℕ, zero, suc, _+_, _-_, _*_, _≤_, _<_}
+use mathlib.Core.Path.{_≡_, refl, ap, _∙_}
+use mathlib.Core.Bool.{Bool, true, false}
+use mathlib.Core.List.{List}
+use Prim.Native.Nat.{ℕ, zero, suc, _-_, _≤_, _<_}
 use native.Mathlib.Omega.{arith}
-use lib.Dec.{eqb, ltb}
-use lib.IntN.{natAbs}
 use lib.ListN.{length, take, drop}
 use lib.Seq.{take-all}
 use borrow.Author.Tests.{eq-eqb, ne-eqb, lt-ltb, le-ltb}
-use Rattle.refusal.specs.Answer.{Answer, given, refused, need, then, ROOM}
+use Rattle.refusal.specs.Answer.{need, then, ROOM}
 use Rattle.refusal.specs.Laws.{fails, holds, then-given, then-refused}
-use Rattle.period.specs.declared.Unit.{Unit}
-use Rattle.period.specs.declared.Unit.the-variants.{Days, Weeks, Months, Years}
 use Rattle.date.specs.declared.Date.{Date}
 use Rattle.date.specs.declared.Dated.{Dated}
 use Rattle.date.specs.declared.Dated.the-variants as dated-is
-use Rattle.date.specs.Civil.{pickN, fieldsOf}
-use Rattle.date.specs.Date.{dated, inBook, monthIndex}
+use Rattle.date.specs.Date.{dated}
 use Rattle.date.specs.Made.{given-day, refused-day}
-use Rattle.date.specs.Moves.{book-from, book-le, valid-at, year-at}
 use Rattle.steps.specs.declared.Pace.{Pace}
 use Rattle.steps.specs.declared.Seed.{Seed}
 use Rattle.steps.specs.declared.Request.{Request}
-use Rattle.steps.specs.Rules.{paceOf, paceBy}
-use Rattle.steps.specs.Table.{isGiven, anchorOk}
+use Rattle.steps.specs.Rules.{paceOf}
+use Rattle.steps.specs.Table.{isGiven}
 use Rattle.steps.specs.Candidates.{candidate, seedOf, turnOf}
-use Rattle.steps.specs.Generate.{Lists, Made, nothing, put, hasRoom, putPenultimate, anchorOr, begun, ended, madeBack, backwardEnd, walk, candidates, lastTry}
+use Rattle.steps.specs.Generate.{Lists, nothing, put, hasRoom, putPenultimate, anchorOr, begun, ended, backwardEnd, walk, candidates, lastTry}
 use Rattle.steps.specs.Finish.{sameFlag}
-use Rattle.schedule.specs.declared.Filled.{Filled}
-use Rattle.schedule.specs.declared.Filled.the-variants as filled-is
-use Rattle.schedule.specs.declared.adds.Added.{Added}
-use Rattle.schedule.specs.declared.adds.Added.the-variants as added-is
+use Rattle.working.specs.declared.Filled.{Filled}
+use Rattle.working.specs.declared.Filled.the-variants as filled-is
+use Rattle.working.specs.declared.adds.Added.{Added}
+use Rattle.working.specs.declared.adds.Added.the-variants as added-is
 use Rattle.schedule.specs.declared.Generated.the-variants as generated-is
-use Rattle.schedule.specs.Part.{Part, held, lastPut, filled, Placed, Filling}
-use Rattle.schedule.specs.Turning.{SeedOk, PaceOk}
-use Rattle.schedule.specs.Adding.{Adding}
-use Rattle.schedule.specs.Making.{Buildable, generated, Lies, Generates}
-use Rattle.schedule.proofs.Puts.{put-length}
-use Rattle.schedule.proofs.Paces.{pace-short}
+use Rattle.working.specs.Part.{Part, held, lastPut, filled, Placed, Filling}
+use Rattle.working.specs.Adding.{Adding}
+use Rattle.schedule.specs.Making.{generated, Lies, Generates}
+use Rattle.working.specs.Held.{put-length}
 use Rattle.schedule.proofs.Chains.{added-sits, added-given}
 
 -- ---- anchors
@@ -50,39 +42,6 @@ anchor-none anchor other e = simp (eq-eqb anchor 0 e)
 pub anchor-some : (anchor other : ℕ) → (anchor ≡ 0 → ⊥) → anchor ≡ anchorOr anchor other
 unfolding anchorOr isGiven
 anchor-some anchor other e = simp (ne-eqb anchor 0 e)
-
-book-span : (d : ℕ) → inBook d ≡ true → (657072 ≤ d) × (d ≤ 803168)
-book-span d h = (omega (arith, book-from d h), book-le d h)
-
-anchor-book : (anchor other : ℕ) → anchorOk anchor ≡ true → inBook other ≡ true → inBook (anchorOr anchor other) ≡ true
-unfolding anchorOr isGiven anchorOk
-anchor-book zero other a b = b
-anchor-book (suc n) other a b = let e = ne-eqb (suc n) 0 (λ h. omega arith) in rw e (rw e at a)
-
--- ---- seeds and paces of a request that passed the checks
-month-few : (d : ℕ) → d ≤ 876216 → monthIndex d ≤ 30000
-unfolding monthIndex
-month-few d h = let v = valid-at (fieldsOf d) d refl in let y = year-at (fieldsOf d) d refl in omega (arith, v .twelve)
-
-pub seed-ok : (m : Bool) (d : ℕ) → 657072 ≤ d → d ≤ 876216 → SeedOk (seedOf m d)
-unfolding seedOf
-seed-ok m d a b = record { from-1800 = a; to-2399 = b; month-few = month-few d b }
-
-pub anchor-seed : (m : Bool) (anchor other : ℕ) → anchorOk anchor ≡ true → inBook other ≡ true → SeedOk (seedOf m (anchorOr anchor other))
-anchor-seed m anchor other a b =
-    let s = book-span (anchorOr anchor other) (anchor-book anchor other a b) in
-    seed-ok m (anchorOr anchor other) (s .0) (omega arith)
-
-some-go : (n : ℕ) (u : Unit) → 1 ≤ n → 1 ≤ paceBy n u .size
-unfolding paceBy
-some-go n Days h = h
-some-go n Weeks h = omega arith
-some-go n Months h = h
-some-go n Years h = omega arith
-
-pub pace-ok : (q : Request) (closed : List ℕ) → Buildable q closed → PaceOk (paceOf (q .tenor))
-unfolding paceOf
-pace-ok q closed b = record { some = some-go (natAbs (q .tenor .length)) (q .tenor .unit) (b .some); few = pace-short (q .tenor) (b .tenor) }
 
 -- ---- the next-to-last date
 module _ (pace : Pace) (seed : Seed) {room n : ℕ} {work marks : List ℕ} (p : Part room n work marks) (some : 0 < n) (anchor : ℕ) where

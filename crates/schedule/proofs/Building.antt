@@ -1,37 +1,34 @@
 -- A law for each way through a build.
 -- Assumes nothing.
 use mathlib.Core.Path.{_≡_, refl, ap, sym, _∙_}
-use mathlib.Core.Bool.{Bool, true, false, not, _&&_, false≢true}
+use mathlib.Core.Bool.{Bool, true, false, _&&_, false≢true}
 use mathlib.Core.List.{List}
-use Prim.Native.Nat.{ℕ, zero, suc, _+_, _-_, _≤_, _<_, min}
+use Prim.Native.Nat.{ℕ, zero, suc, _+_, _-_, _≤_, min}
 use native.Mathlib.Omega.{arith}
-use lib.Dec.{eqb}
-use lib.IntN.{natAbs}
 use lib.ListN.{length, take, drop, length-drop}
 use lib.Seq.{take-all, length-take-le}
-use borrow.Author.Tests.{eq-eqb, ne-eqb}
 use Rattle.refusal.specs.Answer.{Answer, given, refused, then}
 use Rattle.refusal.specs.Laws.{then-given, then-refused}
 use Rattle.date.specs.Date.{inBook}
 use Rattle.steps.specs.declared.Rule.{Rule}
-use Rattle.steps.specs.declared.Rule.the-variants.{Zero}
 use Rattle.steps.specs.declared.Request.{Request}
 use Rattle.steps.specs.declared.Built.{Built}
-use Rattle.steps.specs.Rules.{isZero, isBackward, ruleUnder, isNone, ruleInForce}
+use Rattle.steps.specs.Rules.{isZero, isBackward, ruleInForce}
 use Rattle.steps.specs.Table.{firstRow, inputRows, datesOk, anchorOk}
-use Rattle.steps.specs.TableLaws.{Accepted, accepted}
-use Rattle.steps.specs.Generate.{Lists, Made, nothing, put, madeBack, zeroDates, backward, forward, generateBy, generate}
-use Rattle.steps.specs.Finish.{finish, Merged}
+use Rattle.steps.specs.TableLaws.{accepted}
+use Rattle.steps.specs.Generate.{nothing, put, zeroDates, backward, forward, generateBy, generate}
+use Rattle.steps.specs.Finish.{finish}
 use Rattle.steps.specs.Build.{Schedule, stepsOf, admitted, buildOf, answered, datesAfter, flagsAfter, Written}
-use Rattle.schedule.specs.declared.Filled.{Filled}
-use Rattle.schedule.specs.declared.Filled.the-variants as filled-is
+use Rattle.working.specs.declared.Filled.{Filled}
+use Rattle.working.specs.declared.Filled.the-variants as filled-is
 use Rattle.schedule.specs.declared.Generated.{Generated}
 use Rattle.schedule.specs.declared.Generated.the-variants as generated-is
-use Rattle.schedule.specs.Part.{Part, held, lastPut, Filling}
-use Rattle.schedule.specs.Finishing.{scheduled, Lent, refusedBuilt}
-use Rattle.schedule.specs.Making.{Checked, Buildable, generated, Lies, Generates}
-use Rattle.schedule.proofs.Puts.{put-length}
-use Rattle.schedule.proofs.Chains.{filled-part, filled-given, filled-refused}
+use Rattle.working.specs.Part.{Part, held, lastPut, Filling}
+use Rattle.finish.specs.Finishing.{scheduled, Lent, refusedBuilt, completed}
+use Rattle.finish.specs.Lending.{lent-fits, completed-on}
+use Rattle.schedule.specs.Making.{Checked, generated, Lies, Generates}
+use Rattle.working.specs.Held.{put-length}
+use Rattle.working.specs.Chains.{filled-part, filled-given}
 
 -- ---- Zero
 module _ (q : Request) {room : ℕ} {f : Filled} {work marks : List ℕ} (p : Filling true room (then (put room (q .termination .day) 1 nothing) (put room (q .effective .day) 1)) f work marks) where
@@ -51,34 +48,9 @@ module _ (q : Request) {room : ℕ} {f : Filled} {work marks : List ℕ} (p : Fi
       }
 
 -- ---- by the rule in force
-some-go : (q : Request) (b : Bool) → isNone (q .tenor .length) ≡ b → isZero (ruleUnder b (q .rule)) ≡ false → 1 ≤ natAbs (q .tenor .length)
-unfolding ruleUnder isZero isNone
-some-go q true e h = absurd (false≢true (sym h))
-some-go q false e h = positive (natAbs (q .tenor .length)) e
-  where
-    positive : (n : ℕ) → eqb n 0 ≡ false → 1 ≤ n
-    positive zero g = absurd (false≢true (sym g))
-    positive (suc n) g = omega arith
-
-not-empty : (q : Request) → isZero (ruleInForce q) ≡ false → 1 ≤ natAbs (q .tenor .length)
-unfolding ruleInForce
-not-empty q h = some-go q (isNone (q .tenor .length)) refl h
-
 module _ (q : Request) (closed : List ℕ) (rule : Rule) (r : rule ≡ ruleInForce q) (z : Bool) (p : z ≡ isZero rule) where
   in-force : z ≡ isZero (ruleInForce q)
   in-force = p ∙ ap isZero r
-
-  pub buildable : z ≡ false → Checked q closed → Buildable q closed
-  buildable e c =
-      record {
-        effective = c .effective;
-        termination = c .termination;
-        first = c .first;
-        penultimate = c .penultimate;
-        calendar = c .calendar;
-        tenor = c .tenor;
-        some = not-empty q (sym in-force ∙ e);
-      }
 
   pub generate-zero : (room : ℕ) → z ≡ true → zeroDates q room ≡ generate q closed room
   unfolding generate generateBy
@@ -173,8 +145,9 @@ module _ (q : Request) (closed : List ℕ) (dates flags number : ℕ) (p : numbe
   pub build-checked : number ≡ 0 → Checked q closed × (dates ≡ flags)
   build-checked e = (checked q closed dates flags (sym p ∙ e), accepted q closed dates flags (sym p ∙ e) .even)
 
-pub finish-is : (q : Request) (closed : List ℕ) (seed tries : ℕ) (ds ds′ fs fs′ : List ℕ) → ds ≡ ds′ → fs ≡ fs′ → then (finish q closed seed ds fs) (scheduled tries) ≡ then (finish q closed seed ds′ fs′) (scheduled tries)
-finish-is q closed seed tries ds ds′ fs fs′ a b = rw (a, b) refl
+-- the last steps on a part of the working lists that belongs together with what is lent
+pub finish-is : (q : Request) (closed : List ℕ) (seed tries : ℕ) (ds ds′ fs fs′ dates flags : List ℕ) → ds ≡ ds′ → fs ≡ fs′ → Lent ds fs dates flags → completed q closed seed tries ds fs (length dates) (length flags) ≡ then (finish q closed seed ds′ fs′) (scheduled tries)
+finish-is q closed seed tries ds ds′ fs fs′ dates flags a b l = sym (completed-on q closed seed tries ds fs (length dates) (length flags) 0 (lent-fits l) refl) ∙ rw (a, b) refl
 
 -- empty working lists, and as much room as is lent
 pub part-empty : (lent room : ℕ) (work marks : List ℕ) → length work ≡ 4096 → length marks ≡ 4096 → room ≡ min lent 4096 → Part room 0 work marks

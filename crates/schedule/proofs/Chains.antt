@@ -1,65 +1,35 @@
 -- One step after another: what a step has left is handed on, and a refusal stays.
 -- Assumes nothing.
-use mathlib.Core.Path.{_≡_, refl, ap, sym, _∙_}
-use mathlib.Core.Bool.{Bool, true, false}
-use mathlib.Core.List.{List, []}
-use Prim.Native.Nat.{ℕ, _-_, _≤_, _<_}
-use native.Mathlib.Omega.{arith}
-use lib.ListN.{length, take, drop, drop-of-length-le}
+use mathlib.Core.Path.{_≡_, sym, _∙_}
+use mathlib.Core.Bool.{Bool}
+use mathlib.Core.List.{List}
+use Prim.Native.Nat.{ℕ, _<_}
 use Rattle.refusal.specs.Answer.{Answer, given, refused, then}
 use Rattle.refusal.specs.Laws.{then-given, then-refused}
 use Rattle.calendar.specs.declared.Convention.{Convention}
-use Rattle.steps.specs.Generate.{Lists, Walk, Made, nothing, newest}
-use Rattle.schedule.specs.declared.Filled.{Filled}
-use Rattle.schedule.specs.declared.Filled.the-variants as filled-is
-use Rattle.schedule.specs.declared.adds.Added.{Added}
-use Rattle.schedule.specs.declared.adds.Added.the-variants as added-is
-use Rattle.schedule.specs.declared.walks.Walked.{Walked}
-use Rattle.schedule.specs.declared.walks.Walked.the-variants as walked-is
+use Rattle.steps.specs.Generate.{Lists, Walk, Made, newest}
+use Rattle.working.specs.declared.Filled.{Filled}
+use Rattle.working.specs.declared.Filled.the-variants as filled-is
+use Rattle.working.specs.declared.adds.Added.{Added}
+use Rattle.working.specs.declared.adds.Added.the-variants as added-is
+use Rattle.working.specs.declared.walks.Walked.{Walked}
+use Rattle.working.specs.declared.walks.Walked.the-variants as walked-is
 use Rattle.schedule.specs.declared.Generated.{Generated}
 use Rattle.schedule.specs.declared.Generated.the-variants as generated-is
-use Rattle.schedule.specs.Part.{Part, held, lastPut, filled, Placed, Filling}
-use Rattle.schedule.specs.Turning.{Front, walked, Stands, Walking}
-use Rattle.schedule.specs.Adding.{added, Sits, Adding}
+use Rattle.working.specs.Part.{Part, held, Filling}
+use Rattle.working.specs.Chains.{filled-given, filled-refused}
+use Rattle.working.specs.Turning.{Front, walked, Stands, Walking}
+use Rattle.working.specs.Adding.{added, Sits, Adding}
 use Rattle.schedule.specs.Making.{generated, Lies, Generates}
-
--- nothing has been put yet
-none-put : (back : Bool) (l : List ℕ) → length l ≡ 4096 → lastPut back 0 l ≡ []
-unfolding lastPut
-none-put true l s = drop-of-length-le l {i = 4096} (omega arith)
-none-put false l s = refl
-
-pub held-none : (back : Bool) {room : ℕ} {work marks : List ℕ} → Part room 0 work marks → held back 0 work marks ≡ nothing
-unfolding held
-held-none back {room} {work} {marks} p = rw (none-put back work (p .work-size), none-put back marks (p .marks-size)) refl
 
 -- ---- after a date was put
 module _ {back : Bool} {room : ℕ} {o : Answer Lists} {f : Filled} {work marks : List ℕ} (p : Filling back room o f work marks) where
-  pub filled-part : (n : ℕ) → f ≡ filled-is.Ready n → Part room n work marks × (0 < n)
-  unfolding Placed
-  filled-part n e = let v : Placed room f work marks = p .part in rw e at v
-
-  pub filled-given : (n : ℕ) → f ≡ filled-is.Ready n → o ≡ given (held back n work marks)
-  unfolding filled
-  filled-given n e = let v : filled back f work marks ≡ o = p .says in sym (rw e at v)
-
-  pub filled-refused : (k : ℕ) → f ≡ filled-is.Refused k → o ≡ refused k
-  unfolding filled
-  filled-refused k e = let v : filled back f work marks ≡ o = p .says in sym (rw e at v)
-
-  pub filled-stop : (g : Lists → Answer Lists) (k : ℕ) → f ≡ filled-is.Refused k → Filling back room (then o g) (filled-is.Refused k) work marks
-  unfolding filled Placed
-  filled-stop g k e = record { says = then-refused o k g (filled-refused k e); part = tt }
-
-  pub filled-on : (g : Lists → Answer Lists) (n : ℕ) (r : Filled) (work′ marks′ : List ℕ) → f ≡ filled-is.Ready n → Filling back room (g (held back n work marks)) r work′ marks′ → Filling back room (then o g) r work′ marks′
-  filled-on g n r work′ marks′ e v = record { says = then-given o (held back n work marks) g _ (filled-given n e) (v .says); part = v .part }
-
   pub filled-ends : (g : Lists → Answer Made) (k : ℕ) → f ≡ filled-is.Refused k → Generates room (then o g) (generated-is.Refused k) work marks
   unfolding generated Lies
-  filled-ends g k e = record { says = then-refused o k g (filled-refused k e); lies = tt }
+  filled-ends g k e = record { says = then-refused o k g (filled-refused p k e); lies = tt }
 
   pub filled-makes : (g : Lists → Answer Made) (n : ℕ) (r : Generated) (work′ marks′ : List ℕ) → f ≡ filled-is.Ready n → Generates room (g (held back n work marks)) r work′ marks′ → Generates room (then o g) r work′ marks′
-  filled-makes g n r work′ marks′ e v = record { says = then-given o (held back n work marks) g _ (filled-given n e) (v .says); lies = v .lies }
+  filled-makes g n r work′ marks′ e v = record { says = then-given o (held back n work marks) g _ (filled-given p n e) (v .says); lies = v .lies }
 
 -- ---- after a date was added or not
 module _ {mask : ℕ} {closed : List ℕ} {convention : Convention} {back : Bool} {room : ℕ} {same : Type 0} {o : Answer Lists} {a : Added} {work marks : List ℕ} (p : Adding mask closed convention back room same o a work marks) where
@@ -108,9 +78,6 @@ module _ {mask : ℕ} {closed : List ℕ} {convention : Convention} {back : Bool
   walked-makes g n k f r work′ marks′ e v = record { says = then-given o _ g _ (walked-given n k f e) (v .says); lies = v .lies }
 
 -- ---- a promise about an answer is one about an equal answer
-pub filling-as : {back : Bool} {room : ℕ} {o o′ : Answer Lists} {f : Filled} {work marks : List ℕ} → o ≡ o′ → Filling back room o f work marks → Filling back room o′ f work marks
-filling-as e p = record { says = p .says ∙ e; part = p .part }
-
 pub walking-as : {mask : ℕ} {closed : List ℕ} {convention : Convention} {back : Bool} {room : ℕ} {o o′ : Answer Walk} {w : Walked} {work marks : List ℕ} → o ≡ o′ → Walking mask closed convention back room o w work marks → Walking mask closed convention back room o′ w work marks
 walking-as e p = record { says = p .says ∙ e; stands = p .stands }
 

@@ -1,19 +1,18 @@
 -- A law for each way through the end of a forward build.
 -- Assumes nothing.
-use mathlib.Core.Path.{_≡_, refl, ap, sym, _∙_}
+use mathlib.Core.Path.{_≡_, refl, sym, _∙_}
 use mathlib.Core.Bool.{Bool, true, false}
-use mathlib.Core.List.{List, [], _∷_, reverse, reverse-reverse}
-use Prim.Native.Nat.{ℕ, zero, suc, _+_, _-_, _≤_, _<_}
+use mathlib.Core.List.{List, [], _∷_, reverse-reverse}
+use Prim.Native.Nat.{ℕ, zero, suc, _-_, _<_}
 use native.Mathlib.Omega.{arith}
-use lib.Dec.{eqb}
-use lib.ListN.{length, take, drop}
+use lib.ListN.{take, drop}
 use borrow.Author.Tests.{eq-eqb, ne-eqb}
 use Rattle.refusal.specs.Answer.{Answer, given, refused, then}
 use Rattle.refusal.specs.Laws.{then-given, then-refused}
 use Rattle.date.specs.declared.Date.{Date}
 use Rattle.date.specs.declared.Dated.{Dated}
 use Rattle.date.specs.declared.Dated.the-variants as dated-is
-use Rattle.date.specs.Date.{dated, inBook}
+use Rattle.date.specs.Date.{dated}
 use Rattle.date.specs.Made.{given-day, refused-day}
 use Rattle.calendar.specs.declared.Convention.{Convention}
 use Rattle.calendar.specs.Adjust.{adjusted}
@@ -21,20 +20,21 @@ use Rattle.steps.specs.declared.Request.{Request}
 use Rattle.steps.specs.Rules.{onTwentieths}
 use Rattle.steps.specs.Twentieths.{nextTwentieth}
 use Rattle.steps.specs.Generate.{Lists, Made, Opened, newest, put, closingDay, putClosing, closing, shut, forwardEnd}
-use Rattle.schedule.specs.declared.Filled.{Filled}
-use Rattle.schedule.specs.declared.Filled.the-variants as filled-is
-use Rattle.schedule.specs.declared.adds.Added.{Added}
-use Rattle.schedule.specs.declared.adds.Added.the-variants as added-is
-use Rattle.schedule.specs.declared.openings.Opening.{Opening}
-use Rattle.schedule.specs.declared.openings.Opening.the-variants as opening-is
+use Rattle.working.specs.declared.Filled.{Filled}
+use Rattle.working.specs.declared.Filled.the-variants as filled-is
+use Rattle.working.specs.declared.adds.Added.{Added}
+use Rattle.working.specs.declared.adds.Added.the-variants as added-is
+use Rattle.opening.specs.declared.Opening.{Opening}
+use Rattle.opening.specs.declared.Opening.the-variants as opening-is
 use Rattle.schedule.specs.declared.Generated.{Generated}
 use Rattle.schedule.specs.declared.Generated.the-variants as generated-is
-use Rattle.schedule.specs.Part.{Part, held, lastPut, filled, Placed, Filling}
-use Rattle.schedule.specs.Adding.{Adding}
-use Rattle.schedule.specs.Opening.{openedBy, Open, Opens}
-use Rattle.schedule.specs.Making.{Buildable, opening, generated, Lies, Generates}
-use Rattle.schedule.proofs.Chains.{filled-part, filled-given, added-given, added-refused}
-use Rattle.schedule.proofs.Openers.{stopped, newest-alone}
+use Rattle.working.specs.Part.{Part, held, lastPut, filled, Placed, Filling}
+use Rattle.working.specs.Adding.{Adding}
+use Rattle.opening.specs.Opening.{openedBy, Open, Opens}
+use Rattle.schedule.specs.Making.{opening, generated, Lies, Generates}
+use Rattle.schedule.proofs.Chains.{added-given, added-refused}
+use Rattle.working.specs.Chains.{stopped, filled-part, filled-given}
+use Rattle.working.specs.Held.{newest-alone}
 
 -- ---- the last date
 module _ (q : Request) (room : ℕ) (l : Lists) (b : Bool) (p : b ≡ onTwentieths (q .rule)) where
@@ -53,7 +53,7 @@ module _ (q : Request) (room : ℕ) (l : Lists) (b : Bool) (p : b ≡ onTwentiet
 
 module _ (q : Request) (closed : List ℕ) {room n : ℕ} {work marks : List ℕ} (p : Part room n work marks) (some : 0 < n) (day : ℕ) (at : day ≡ newest (held false n work work)) (last : Dated) (s : dated last ≡ adjusted (q .mask) closed (q .terminal) day) where
   was : dated last ≡ adjusted (q .mask) closed (q .terminal) (newest (held false n work marks))
-  was = rw (at ∙ newest-alone n work marks) at s
+  was = rw (at ∙ newest-alone false n work marks) at s
 
   pub close-stop : (k : ℕ) → last ≡ dated-is.Refused k → Filling false room (closing q closed room (held false n work marks)) (filled-is.Refused k) work marks
   unfolding closing

@@ -1,16 +1,4 @@
-pub mod Puts
-pub mod Paces
-pub mod Merging
-pub mod Copying
-pub mod Turns
-pub mod Walking
-pub mod Additions
 pub mod Chains
 pub mod Backing
-pub mod Spans
-pub mod Openers
 pub mod Forthing
-pub mod Moves
-pub mod Ending
 pub mod Building
-pub mod Fuel

@@ -1,11 +1,11 @@
 -- What the input checks have shown of a request, and what has been generated of it.
 -- Assumes nothing.
-use Prim.Native.Nat.{ℕ, _+_, _-_, _≤_, _<_}
+use Prim.Native.Nat.{ℕ, _+_, _-_, _≤_}
 use mathlib.Core.Path.{_≡_}
-use mathlib.Core.Bool.{Bool, true, false}
+use mathlib.Core.Bool.{true, false}
 use mathlib.Core.List.{List}
 use lib.IntN.{natAbs}
-use lib.ListN.{length, take, drop}
+use lib.ListN.{take, drop}
 use Rattle.refusal.specs.Answer.{Answer, given, refused}
 use Rattle.date.specs.Date.{inBook}
 use Rattle.calendar.specs.Open.{closedOk}
@@ -13,7 +13,7 @@ use Rattle.calendar.specs.Calendar.{tenorOk}
 use Rattle.steps.specs.declared.Request.{Request}
 use Rattle.steps.specs.Table.{anchorOk}
 use Rattle.steps.specs.Generate.{Made, Opened}
-use Rattle.schedule.specs.Part.{held}
+use Rattle.working.specs.Part.{held}
 use Rattle.schedule.specs.declared.Generated.{Generated}
 use Rattle.schedule.specs.declared.Generated.the-variants.{Ready, Refused}
 
@@ -25,16 +25,6 @@ pub record Checked (q : Request) (closed : List ℕ) : Type 0 where
   pub penultimate : anchorOk (q .penultimate .day) ≡ true
   pub calendar : closedOk closed ≡ true
   pub tenor : tenorOk (natAbs (q .tenor .length)) (q .tenor .unit) ≡ true
-
--- and a tenor that is not empty
-pub record Buildable (q : Request) (closed : List ℕ) : Type 0 where
-  pub effective : inBook (q .effective .day) ≡ true
-  pub termination : inBook (q .termination .day) ≡ true
-  pub first : anchorOk (q .first .day) ≡ true
-  pub penultimate : anchorOk (q .penultimate .day) ≡ true
-  pub calendar : closedOk closed ≡ true
-  pub tenor : tenorOk (natAbs (q .tenor .length)) (q .tenor .unit) ≡ true
-  pub some : 1 ≤ natAbs (q .tenor .length)
 
 -- n dates from a place on, and the flags between them from a place of their own on
 unfoldable pub generated : Generated → List ℕ → List ℕ → Answer Made

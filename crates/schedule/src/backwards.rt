@@ -1,30 +1,28 @@
 // Backward builds: from termination back to the effective date.
 ghost use mathlib.Core.Path.{_≡_};
 ghost use mathlib.Core.Bool.{true};
-ghost use Prim.Native.Nat.{_<_, _≤_};
+ghost use Prim.Native.Nat.{_<_};
 ghost use Rattle.refusal.specs.Answer.{then};
 ghost use Rattle.calendar.specs.Open.{closedOk};
 ghost use Rattle.steps.specs.Rules.{paceOf};
-ghost use Rattle.steps.specs.Candidates.{seedOf, turnOf};
-ghost use Rattle.steps.specs.Generate.{nothing, newest, put, putNew, putAnchor, putPenultimate, anchorOr, ended, begun, backwardEnd, backwardFrom, backward};
-ghost use Rattle.schedule.specs.Part.{Part, held, Filling};
-ghost use Rattle.schedule.specs.Turning.{SeedOk, PaceOk, Front, Walking};
-ghost use Rattle.schedule.specs.Adding.{Adding};
-ghost use Rattle.schedule.specs.Making.{Buildable, Generates};
-use crate::Filled;
+ghost use Rattle.steps.specs.Generate.{nothing, newest, put, putPenultimate, anchorOr, ended, begun, backwardEnd, backwardFrom, backward};
+ghost use Rattle.working.specs.Part.{Part, held, Filling};
+ghost use Rattle.working.specs.Turning.{Front};
+ghost use Rattle.working.specs.Adding.{Adding};
+ghost use Rattle.schedule.specs.Making.{Checked, Generates};
 use crate::Generated;
-use crate::adds;
-use crate::adds::Added;
-use crate::candidates;
-use crate::lists;
-use crate::merges;
-use crate::walks;
-use crate::walks::Walked;
 use date::Dated;
 use steps::Pace;
 use steps::Request;
 use steps::Seed;
 use steps::seeds;
+use working::Filled;
+use working::adds;
+use working::adds::Added;
+use working::candidates;
+use working::lists;
+use working::walks;
+use working::walks::Walked;
 
 // An anchor, or the other date where it is absent.
 pub(crate) fn anchor_or(anchor: u32, other: u32) -> u32
@@ -43,7 +41,7 @@ fn put_penultimate(
     work: &mut [u32],
     marks: &mut [u8],
 ) -> Filled
-    requires { ⌜ Part room n (now work) (now marks) × (0 < n) × PaceOk pace ⌝ }
+    requires { ⌜ Part room n (now work) (now marks) × (0 < n) ⌝ }
     ensures { λ r. ⌜ Filling true room (putPenultimate pace seed room anchor (held true n (now (work .entry)) (now (marks .entry)))) r (now (work .exit)) (now (marks .exit)) ⌝ }
 {
     if anchor == 0 {
@@ -60,7 +58,7 @@ fn put_penultimate(
             n,
             room,
             anchor,
-            merges::same_flag(d.day, anchor),
+            lists::same_flag(d.day, anchor),
             work,
             marks,
         ),
@@ -77,7 +75,7 @@ fn begin(
     work: &mut [u32],
     marks: &mut [u8],
 ) -> Filled
-    requires { ⌜ Part room 0 (now work) (now marks) × PaceOk pace ⌝ }
+    requires { ⌜ Part room 0 (now work) (now marks) ⌝ }
     ensures { λ r. ⌜ Filling true room (then (put room termination 1 nothing) (putPenultimate pace seed room anchor)) r (now (work .exit)) (now (marks .exit)) ⌝ }
 {
     let end = lists::put(true, 0, room, termination, 1, work, marks);
@@ -178,7 +176,7 @@ fn backward_from(
     work: &mut [u32],
     marks: &mut [u8],
 ) -> Generated
-    requires { ⌜ Buildable q (now closed) × (0 < n) × (pace ≡ paceOf (q .tenor)) ⌝ }
+    requires { ⌜ Checked q (now closed) × (0 < n) × (pace ≡ paceOf (q .tenor)) ⌝ }
     requires { ⌜ Part room n (now work) (now marks) ⌝ }
     ensures { λ r. ⌜ Generates room (backwardFrom q (now (closed .entry)) room (held true n (now (work .entry)) (now (marks .entry)))) r (now (work .exit)) (now (marks .exit)) ⌝ }
 {
@@ -222,7 +220,7 @@ pub(crate) fn backward(
     work: &mut [u32],
     marks: &mut [u8],
 ) -> Generated
-    requires { ⌜ Buildable q (now closed) ⌝ }
+    requires { ⌜ Checked q (now closed) ⌝ }
     requires { ⌜ Part room 0 (now work) (now marks) ⌝ }
     ensures { λ r. ⌜ Generates room (backward q (now (closed .entry)) room) r (now (work .exit)) (now (marks .exit)) ⌝ }
 {

@@ -1,30 +1,28 @@
 // Forward builds, and those on twentieths and third Wednesdays: from the effective date on to termination.
 ghost use mathlib.Core.Path.{_≡_};
 ghost use mathlib.Core.Bool.{true, false};
-ghost use Prim.Native.Nat.{_<_, _≤_};
+ghost use Prim.Native.Nat.{_<_};
 ghost use Rattle.calendar.specs.Open.{closedOk};
-ghost use Rattle.steps.specs.Rules.{paceOf};
 ghost use Rattle.steps.specs.Generate.{newest, putClosing, closing, shut, forwardEnd, forwardFrom, forward};
-ghost use Rattle.schedule.specs.Part.{Part, held, Filling};
-ghost use Rattle.schedule.specs.Turning.{SeedOk, Front};
-ghost use Rattle.schedule.specs.Making.{Buildable, Generates, opening};
-use crate::Filled;
+ghost use Rattle.working.specs.Part.{Part, held, Filling};
+ghost use Rattle.working.specs.Turning.{Front};
+ghost use Rattle.schedule.specs.Making.{Checked, Generates, opening};
 use crate::Generated;
-use crate::adds;
-use crate::adds::Added;
 use crate::backwards;
-use crate::candidates;
-use crate::lists;
-use crate::openings;
-use crate::openings::Opening;
-use crate::walks;
-use crate::walks::Walked;
 use calendar::search;
 use date::Dated;
+use opening::Opening;
 use steps::Request;
 use steps::rules;
 use steps::seeds;
 use steps::twentieths;
+use working::Filled;
+use working::adds;
+use working::adds::Added;
+use working::candidates;
+use working::lists;
+use working::walks;
+use working::walks::Walked;
 
 // Termination, or its twentieth for the rules on twentieths.
 fn put_closing(q: Request, room: usize, n: usize, work: &mut [u32], marks: &mut [u8]) -> Filled
@@ -148,7 +146,7 @@ fn forward_from(
     work: &mut [u32],
     marks: &mut [u8],
 ) -> Generated
-    requires { ⌜ Buildable q (now closed) × (0 < n) × (657072 ≤ day) × (day ≤ 876216) ⌝ }
+    requires { ⌜ Checked q (now closed) × (0 < n) ⌝ }
     requires { ⌜ Part room n (now work) (now marks) ⌝ }
     ensures { λ r. ⌜ Generates room (forwardFrom q (now (closed .entry)) room (opening n day (now (work .entry)) (now (marks .entry)))) r (now (work .exit)) (now (marks .exit)) ⌝ }
 {
@@ -193,11 +191,11 @@ pub(crate) fn forward(
     work: &mut [u32],
     marks: &mut [u8],
 ) -> Generated
-    requires { ⌜ Buildable q (now closed) ⌝ }
+    requires { ⌜ Checked q (now closed) ⌝ }
     requires { ⌜ Part room 0 (now work) (now marks) ⌝ }
     ensures { λ r. ⌜ Generates room (forward q (now (closed .entry)) room) r (now (work .exit)) (now (marks .exit)) ⌝ }
 {
-    let opened = openings::open_forward(q, closed, room, work, marks);
+    let opened = opening::open_forward(q, closed, room, work, marks);
     match opened {
         Opening::Refused(k) => Generated::Refused(k),
         Opening::Ready { n, seed } => forward_from(q, closed, room, n, seed, work, marks),

@@ -1,22 +1,22 @@
 // The dates of a build, by the rule in force.
 ghost use mathlib.Core.Path.{_≡_};
 ghost use Rattle.steps.specs.Generate.{zeroDates, generate};
-ghost use Rattle.schedule.specs.Part.{Part};
+ghost use Rattle.working.specs.Part.{Part};
 ghost use Rattle.schedule.specs.Making.{Checked, Generates};
-use crate::Filled;
 use crate::Generated;
 use crate::backwards;
 use crate::forwards;
-use crate::openings;
 use steps::Request;
 use steps::rules;
+use working::Filled;
+use working::lists;
 
 // Zero: the effective date and termination.
 fn zero_dates(q: Request, room: usize, work: &mut [u32], marks: &mut [u8]) -> Generated
     requires { ⌜ Part room 0 (now work) (now marks) ⌝ }
     ensures { λ r. ⌜ Generates room (zeroDates q room) r (now (work .exit)) (now (marks .exit)) ⌝ }
 {
-    let two = openings::put_two(true, room, q.termination.day, q.effective.day, work, marks);
+    let two = lists::put_two(true, room, q.termination.day, q.effective.day, work, marks);
     match two {
         Filled::Refused(k) => Generated::Refused(k),
         Filled::Ready(n) => {

@@ -7,44 +7,19 @@ ghost use Rattle.refusal.specs.Answer.{then};
 ghost use Rattle.calendar.specs.Open.{closedOk};
 ghost use Rattle.steps.specs.Finish.{finish};
 ghost use Rattle.steps.specs.Build.{Written, stepsOf, buildOf};
-ghost use Rattle.schedule.specs.Part.{Part};
-ghost use Rattle.schedule.specs.Finishing.{scheduled};
+ghost use Rattle.working.specs.Part.{Part};
+ghost use Rattle.finish.specs.Finishing.{scheduled};
 ghost use Rattle.schedule.specs.Making.{Checked};
 use steps::Built;
 use steps::Request;
 use steps::table;
 
-// The working lists: dates and marks are put into them.
-mod lists;
 // Forward builds.
 mod forwards;
-// The first two dates of a forward build.
-mod openings;
 // The dates of a build, by its rule.
 mod generating;
 // Backward builds.
 mod backwards;
-// Dates that are added unless they adjust to the day of the newest.
-mod adds;
-// The loop over the candidates.
-mod walks;
-// Copying out.
-mod copies;
-// The merges at the end and at the front.
-mod merges;
-// Candidates: whole tenors before or after the seed.
-mod candidates;
-// Dates moved in place.
-mod moving;
-// Third Wednesdays, and the adjustments of the first, the last and the middle dates.
-mod adjusting;
-// The steps after the dates have been generated, up to writing out.
-mod finishing;
-
-pub(crate) enum Filled {
-    Ready(usize),
-    Refused(u8),
-}
 
 // What has been generated: n dates from a place on in the working list, and the flags between them from another place on.
 pub(crate) enum Generated {
@@ -85,7 +60,7 @@ fn finish_part(
 {
     let end = from + n;
     let last = marked + (n - 1);
-    finishing::complete(
+    finish::complete(
         q,
         closed,
         seed,
@@ -113,7 +88,7 @@ fn run(
 {
     let made = generating::generate(q, closed, room, work, marks);
     match made {
-        Generated::Refused(k) => finishing::refused(k),
+        Generated::Refused(k) => finish::refused(k),
         Generated::Ready {
             from,
             marked,
@@ -143,7 +118,7 @@ pub fn build(q: Request, closed: &[u32], dates: &mut [u32], flags: &mut [u8]) ->
 {
     let number = table::input_refusal(q, closed, dates.len(), flags.len());
     if number != 0 {
-        return finishing::refused(number);
+        return finish::refused(number);
     }
     let room = least(dates.len(), 4096);
     let mut work = [0u32; 4096];

@@ -7,4 +7,3 @@ pub mod Candidates
 pub mod Generate
 pub mod Finish
 pub mod Build
-pub mod Sums

@@ -1,14 +1,13 @@
 -- `schedule::build` meets its contract.
 -- Assumes nothing.
-use native.Mathlib.Omega.{arith}
 use Rattle.schedule.proofs.Building.{refusal-written, build-refused, build-admitted, build-checked, part-empty}
-use Rattle.schedule.proofs.Ending.{written-as}
+use Rattle.finish.specs.Lending.{written-as}
 use borrow.Author.Needs.{needs}
 use Rattle.schedule.proofs.build.Statement.{statement}
 use Rattle.schedule.proofs.build.Tie as tie
 use Rattle.schedule.proofs.build.Reads as reads
 use Rattle.schedule.proofs.build.Lts as lts
-use Rattle.schedule.proofs.finishing.refused.Reads as refused-reads
+use Rattle.finish.proofs.refused.Reads as refused-reads
 use Rattle.schedule.proofs.least.Reads as least-reads
 use Rattle.schedule.proofs.run.Reads as run-reads
 use Rattle.steps.proofs.table.input_refusal.Reads as input-refusal-reads

@@ -2,13 +2,13 @@
 -- Assumes nothing.
 use mathlib.Core.Path.{refl}
 use Rattle.schedule.proofs.Building.{part-is, finish-is, lent-part}
-use Rattle.schedule.proofs.Ending.{written-as}
+use Rattle.finish.specs.Lending.{written-as}
 use borrow.Author.Needs.{needs}
 use Rattle.schedule.proofs.finish_part.Statement.{statement}
 use Rattle.schedule.proofs.finish_part.Tie as tie
 use Rattle.schedule.proofs.finish_part.Reads as reads
 use Rattle.schedule.proofs.finish_part.Lts as lts
-use Rattle.schedule.proofs.finishing.complete.Reads as complete-reads
+use Rattle.finish.proofs.complete.Reads as complete-reads
 
 add-end : tie.Need-add-end
 add-end c = search needs
@@ -41,9 +41,7 @@ part-complete-end-2 : tie.Need-part-complete-end-2
 part-complete-end-2 c = search needs
 
 complete-requires : tie.Need-complete-requires
-complete-requires c κs =
-    let p = c .before .before .before .before .before .before .before .before .before .pre in
-    (p .0 .0, lent-part _ _ _ _ _ _ _ _ _ (p .0 .1) (p .0 .2) refl refl (p .1 .0 .0) (p .1 .0 .1) (p .1 .0 .2) (p .1 .1 .0) (p .1 .1 .1))
+complete-requires c κs = search needs
 
 same-length : tie.Need-same-length
 same-length c = search needs
@@ -60,7 +58,8 @@ same-length-4 c = search needs
 returns : tie.Need-returns
 returns c =
     let p = c .before .before .before .before .before .before .before .before .before .before .before .before .before .before .before .before .before .before .pre in
-    written-as _ _ _ _ _ _ _ _ (finish-is _ _ _ _ _ _ _ _ (part-is _ _ _ _ (p .0 .1) refl (p .1 .0 .1)) (part-is _ _ _ _ (p .0 .2) refl (p .1 .0 .2))) (c .before .before .before .before .before .before .before .before .complete .ensures)
+    let a = c .before .before .before .before .before .before .before .before .before .before .before .before .before .before .before .before .before .before .args in
+    written-as _ _ _ _ _ _ _ _ (finish-is _ _ _ _ _ _ _ _ (a .dates .now) (a .flags .now) (part-is _ _ _ _ (p .0 .1) refl (p .1 .0 .1)) (part-is _ _ _ _ (p .0 .2) refl (p .1 .0 .2)) (lent-part _ _ _ _ _ _ _ _ _ (p .0 .1) (p .0 .2) refl refl (p .1 .0 .0) (p .1 .0 .1) (p .1 .0 .2) (p .1 .1 .0) (p .1 .1 .1))) (c .before .before .before .before .before .before .before .before .complete .ensures (p .0 .0))
 
 pub finish-part-spec : {M : Type 1} → statement M
 finish-part-spec =

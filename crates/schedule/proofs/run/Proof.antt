@@ -2,14 +2,14 @@
 -- Assumes nothing.
 use native.Mathlib.Omega.{arith}
 use Rattle.schedule.proofs.Building.{refusal-written, run-stop, run-on, run-lies, room-enough}
-use Rattle.schedule.proofs.Ending.{written-as}
+use Rattle.finish.specs.Lending.{written-as}
 use borrow.Author.Needs.{needs}
 use Rattle.schedule.proofs.run.Statement.{statement}
 use Rattle.schedule.proofs.run.Tie as tie
 use Rattle.schedule.proofs.run.Reads as reads
 use Rattle.schedule.proofs.run.Lts as lts
 use Rattle.schedule.proofs.finish_part.Reads as finish-part-reads
-use Rattle.schedule.proofs.finishing.refused.Reads as refused-reads
+use Rattle.finish.proofs.refused.Reads as refused-reads
 use Rattle.schedule.proofs.generating.generate.Reads as generate-reads
 
 generate-requires : tie.Need-generate-requires

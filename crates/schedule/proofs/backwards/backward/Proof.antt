@@ -1,12 +1,11 @@
 -- `schedule::backwards::backward` meets its contract.
 -- Assumes nothing.
-use Rattle.schedule.proofs.Chains.{filling-as}
+use Rattle.working.specs.Chains.{filled-part, filling-as}
+use Rattle.working.specs.Paces.{pace-checked}
 use Rattle.schedule.proofs.Backing.{begun-is}
-use mathlib.Core.Path.{_≡_, sym, _∙_}
-use Rattle.steps.specs.Generate.{begun, backward}
-use Rattle.schedule.specs.Turning.{SeedOk, PaceOk}
-use Rattle.schedule.proofs.Chains.{filled-part, filled-ends, filled-makes}
-use Rattle.schedule.proofs.Backing.{pace-ok}
+use mathlib.Core.Path.{_≡_, _∙_}
+use Rattle.steps.specs.Generate.{backward}
+use Rattle.schedule.proofs.Chains.{filled-ends, filled-makes}
 use borrow.Author.Needs.{needs}
 use Rattle.schedule.proofs.backwards.backward.Statement.{statement}
 use Rattle.schedule.proofs.backwards.backward.Tie as tie
@@ -14,7 +13,7 @@ use Rattle.schedule.proofs.backwards.backward.Reads as reads
 use Rattle.schedule.proofs.backwards.backward.Lts as lts
 use Rattle.schedule.proofs.backwards.backward_from.Reads as backward-from-reads
 use Rattle.schedule.proofs.backwards.begin.Reads as begin-reads
-use Rattle.schedule.proofs.candidates.pace_of.Reads as pace-of-reads
+use Rattle.working.proofs.candidates.pace_of.Reads as pace-of-reads
 use Rattle.steps.proofs.seeds.seed_of.Reads as seed-of-reads
 
 pace-of-requires : tie.Need-pace-of-requires
@@ -24,7 +23,7 @@ seed-of-requires : tie.Need-seed-of-requires
 seed-of-requires c κs = search needs
 
 begin-requires : tie.Need-begin-requires
-begin-requires c κs = (c .before .before .before .before .before .before .before .before .pre .1, rw (c .before .before .before .pace-of .ensures) (pace-ok _ _ (c .before .before .before .before .before .before .before .before .pre .0)))
+begin-requires c κs = search needs
 
 enum-known-begun : tie.Need-enum-known-begun
 enum-known-begun c = search needs
@@ -34,8 +33,9 @@ enum-known-begun-2 c = search needs
 
 backward-from-requires : tie.Need-backward-from-requires
 backward-from-requires c κs =
+    let s = c .before .before .before .before .before .before .before .before .before .before .before .before .before .before .before .before .before .before .pre in
     let p = filled-part (c .before .before .before .before .before .before .before .before .before .begin .ensures) _ (c .before .before .before .begun2 .given .1) in
-    ((c .before .before .before .before .before .before .before .before .before .before .before .before .before .before .before .before .before .before .pre .0, p .1, c .before .before .before .before .before .before .before .before .before .before .before .before .before .pace-of .ensures), p .0)
+    ((s .0, p .1, c .before .before .before .before .before .before .before .before .before .before .before .before .before .pace-of .ensures ∙ pace-checked _ (s .0 .tenor)), p .0)
 
 same-length : tie.Need-same-length
 same-length c = search needs
@@ -46,7 +46,7 @@ same-length-2 c = search needs
 returns : tie.Need-returns
 unfolding backward
 returns c =
-    filled-ends (filling-as (begun-is _ _ _ _ (c .before .before .before .before .before .before .before .before .before .before .before .pace-of .ensures) (c .before .before .before .before .before .before .before .before .before .before .seed-of .ensures)) (c .before .before .before .before .before .before .before .begin .ensures)) _ _ (c .before .begun .given .1)
+    filled-ends (filling-as (begun-is _ _ _ _ (c .before .before .before .before .before .before .before .before .before .before .before .pace-of .ensures ∙ pace-checked _ (c .before .before .before .before .before .before .before .before .before .before .before .before .before .before .before .before .pre .0 .tenor)) (c .before .before .before .before .before .before .before .before .before .before .seed-of .ensures)) (c .before .before .before .before .before .before .before .begin .ensures)) _ _ (c .before .begun .given .1)
 
 same-length-3 : tie.Need-same-length-3
 same-length-3 c = search needs
@@ -57,7 +57,7 @@ same-length-4 c = search needs
 returns-2 : tie.Need-returns-2
 unfolding backward
 returns-2 c =
-    filled-makes (filling-as (begun-is _ _ _ _ (c .before .before .before .before .before .before .before .before .before .before .before .before .before .before .before .before .before .before .pace-of .ensures) (c .before .before .before .before .before .before .before .before .before .before .before .before .before .before .before .before .before .seed-of .ensures)) (c .before .before .before .before .before .before .before .before .before .before .before .before .before .before .begin .ensures)) _ _ _ _ _ (c .before .before .before .before .before .before .before .before .begun2 .given .1) (c .before .before .before .before .backward-from .ensures)
+    filled-makes (filling-as (begun-is _ _ _ _ (c .before .before .before .before .before .before .before .before .before .before .before .before .before .before .before .before .before .before .pace-of .ensures ∙ pace-checked _ (c .before .before .before .before .before .before .before .before .before .before .before .before .before .before .before .before .before .before .before .before .before .before .before .pre .0 .tenor)) (c .before .before .before .before .before .before .before .before .before .before .before .before .before .before .before .before .before .seed-of .ensures)) (c .before .before .before .before .before .before .before .before .before .before .before .before .before .before .begin .ensures)) _ _ _ _ _ (c .before .before .before .before .before .before .before .before .begun2 .given .1) (c .before .before .before .before .backward-from .ensures)
 
 pub backward-spec : {M : Type 1} → statement M
 backward-spec =

@@ -1,6 +1,5 @@
 -- `schedule::backwards::backward_end` meets its contract.
 -- Assumes nothing.
-use native.Mathlib.Omega.{arith}
 use Rattle.steps.specs.Generate.{backwardEnd}
 use Rattle.schedule.proofs.Chains.{added-ends}
 use Rattle.schedule.proofs.Backing.{back-size, back-made}

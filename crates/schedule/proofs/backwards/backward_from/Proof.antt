@@ -1,14 +1,11 @@
 -- `schedule::backwards::backward_from` meets its contract.
 -- Assumes nothing.
-use mathlib.Core.Path.{ap}
-use Rattle.steps.specs.Generate.{backwardEnd}
+use Rattle.working.specs.Held.{begun-of}
 use Rattle.schedule.proofs.Chains.{walking-as, generates-as}
 use Rattle.schedule.proofs.Backing.{loop-is, back-end-seed}
-use mathlib.Core.Path.{_≡_, sym, _∙_}
-use Rattle.steps.specs.Generate.{backwardFrom, candidates, lastTry}
-use Rattle.schedule.specs.Turning.{SeedOk, PaceOk}
+use mathlib.Core.Path.{_≡_}
+use Rattle.steps.specs.Generate.{backwardFrom}
 use Rattle.schedule.proofs.Chains.{walked-stands, walked-ends, walked-makes}
-use Rattle.schedule.proofs.Backing.{anchor-seed, pace-ok}
 use borrow.Author.Needs.{needs}
 use Rattle.schedule.proofs.backwards.backward_from.Statement.{statement}
 use Rattle.schedule.proofs.backwards.backward_from.Tie as tie
@@ -16,7 +13,7 @@ use Rattle.schedule.proofs.backwards.backward_from.Reads as reads
 use Rattle.schedule.proofs.backwards.backward_from.Lts as lts
 use Rattle.schedule.proofs.backwards.anchor_or.Reads as anchor-or-reads
 use Rattle.schedule.proofs.backwards.backward_end.Reads as backward-end-reads
-use Rattle.schedule.proofs.walks.walk.Reads as walk-reads
+use Rattle.working.proofs.walks.walk.Reads as walk-reads
 use Rattle.steps.proofs.seeds.seed_of.Reads as seed-of-reads
 
 anchor-or-requires : tie.Need-anchor-or-requires
@@ -29,11 +26,7 @@ seed-of-requires : tie.Need-seed-of-requires
 seed-of-requires c κs = search needs
 
 walk-requires : tie.Need-walk-requires
-walk-requires c κs =
-    let b = c .before .before .before .before .before .before .before .before .pre .0 .0 in
-    let so : SeedOk (c .before .before .seed-of .result) = rw (c .before .before .seed-of .ensures, c .before .before .before .before .anchor-or .ensures) (anchor-seed _ _ _ (b .penultimate) (b .termination)) in
-    let po : PaceOk (c .before .before .before .before .before .before .before .before .args .pace) = rw (c .before .before .before .before .before .before .before .before .pre .0 .2) (pace-ok _ _ b) in
-    (b .calendar, ((so, po, c .before .before .before .before .before .before .before .before .pre .0 .1), c .before .before .before .before .before .before .before .before .pre .1))
+walk-requires c κs = search needs
 
 enum-known-walked : tie.Need-enum-known-walked
 enum-known-walked c = search needs
@@ -43,8 +36,9 @@ enum-known-walked-2 c = search needs
 
 backward-end-requires : tie.Need-backward-end-requires
 backward-end-requires c κs =
-    let p = walked-stands (c .before .before .before .before .before .before .before .before .before .walk .ensures) _ _ _ (c .before .before .before .walked2 .given .1) in
-    ((c .before .before .before .before .before .before .before .before .before .before .before .before .before .before .before .before .before .before .pre .0 .0 .calendar, p .1), (p .0, p .2))
+    let s = c .before .before .before .before .before .before .before .before .before .before .before .before .before .before .before .before .before .before .pre in
+    let p = walked-stands (c .before .before .before .before .before .before .before .before .before .walk .ensures (begun-of (s .0 .0 .calendar, s .0 .1) (s .1))) _ _ _ (c .before .before .before .walked2 .given .1) in
+    ((s .0 .0 .calendar, p .1), (p .0, p .2))
 
 same-length : tie.Need-same-length
 same-length c = search needs
@@ -55,8 +49,9 @@ same-length-2 c = search needs
 returns : tie.Need-returns
 unfolding backwardFrom
 returns c =
-    let is = loop-is _ _ _ _ _ _ _ _ _ _ _ (c .before .before .before .before .before .before .before .before .before .before .before .before .before .before .before .before .pre .0 .2) (c .before .before .before .before .before .before .before .before .before .before .seed-of .ensures) (c .before .before .before .before .before .before .before .before .before .before .before .before .anchor-or .ensures) (c .before .before .before .before .before .before .before .before .before .before .before .anchor-or2 .ensures) in
-    walked-ends (walking-as is (c .before .before .before .before .before .before .before .walk .ensures)) _ _ (c .before .walked .given .1)
+    let s = c .before .before .before .before .before .before .before .before .before .before .before .before .before .before .before .before .pre in
+    let is = loop-is _ _ _ _ _ _ _ _ _ _ _ (s .0 .2) (c .before .before .before .before .before .before .before .before .before .before .seed-of .ensures) (c .before .before .before .before .before .before .before .before .before .before .before .before .anchor-or .ensures) (c .before .before .before .before .before .before .before .before .before .before .before .anchor-or2 .ensures) in
+    walked-ends (walking-as is (c .before .before .before .before .before .before .before .walk .ensures (begun-of (s .0 .0 .calendar, s .0 .1) (s .1)))) _ _ (c .before .walked .given .1)
 
 same-length-3 : tie.Need-same-length-3
 same-length-3 c = search needs
@@ -67,8 +62,9 @@ same-length-4 c = search needs
 returns-2 : tie.Need-returns-2
 unfolding backwardFrom
 returns-2 c =
-    let is = loop-is _ _ _ _ _ _ _ _ _ _ _ (c .before .before .before .before .before .before .before .before .before .before .before .before .before .before .before .before .before .before .before .before .before .before .before .pre .0 .2) (c .before .before .before .before .before .before .before .before .before .before .before .before .before .before .before .before .before .seed-of .ensures) (c .before .before .before .before .before .before .before .before .before .before .before .before .before .before .before .before .before .before .before .anchor-or .ensures) (c .before .before .before .before .before .before .before .before .before .before .before .before .before .before .before .before .before .before .anchor-or2 .ensures) in
-    walked-makes (walking-as is (c .before .before .before .before .before .before .before .before .before .before .before .before .before .before .walk .ensures)) _ _ _ _ _ _ _ (c .before .before .before .before .before .before .before .before .walked2 .given .1)
+    let s = c .before .before .before .before .before .before .before .before .before .before .before .before .before .before .before .before .before .before .before .before .before .before .before .pre in
+    let is = loop-is _ _ _ _ _ _ _ _ _ _ _ (s .0 .2) (c .before .before .before .before .before .before .before .before .before .before .before .before .before .before .before .before .before .seed-of .ensures) (c .before .before .before .before .before .before .before .before .before .before .before .before .before .before .before .before .before .before .before .anchor-or .ensures) (c .before .before .before .before .before .before .before .before .before .before .before .before .before .before .before .before .before .before .anchor-or2 .ensures) in
+    walked-makes (walking-as is (c .before .before .before .before .before .before .before .before .before .before .before .before .before .before .walk .ensures (begun-of (s .0 .0 .calendar, s .0 .1) (s .1)))) _ _ _ _ _ _ _ (c .before .before .before .before .before .before .before .before .walked2 .given .1)
     (generates-as (back-end-seed _ _ _ _ _ _ _ (c .before .before .before .before .before .before .before .before .before .before .before .before .before .before .before .before .before .before .before .anchor-or .ensures)) (c .before .before .before .before .backward-end .ensures))
 
 pub backward-from-spec : {M : Type 1} → statement M

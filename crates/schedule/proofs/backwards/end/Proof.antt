@@ -1,5 +1,6 @@
 -- `schedule::backwards::end` meets its contract.
 -- Assumes nothing.
+use Rattle.working.specs.Held.{begun-of}
 use mathlib.Core.Path.{refl}
 use Rattle.steps.specs.Generate.{ended}
 use Rattle.schedule.proofs.Chains.{added-sits, added-stop, added-on}
@@ -8,8 +9,8 @@ use Rattle.schedule.proofs.backwards.end.Statement.{statement}
 use Rattle.schedule.proofs.backwards.end.Tie as tie
 use Rattle.schedule.proofs.backwards.end.Reads as reads
 use Rattle.schedule.proofs.backwards.end.Lts as lts
-use Rattle.schedule.proofs.adds.put_anchor.Reads as put-anchor-reads
-use Rattle.schedule.proofs.adds.put_new.Reads as put-new-reads
+use Rattle.working.proofs.adds.put_anchor.Reads as put-anchor-reads
+use Rattle.working.proofs.adds.put_new.Reads as put-new-reads
 
 put-anchor-requires : tie.Need-put-anchor-requires
 put-anchor-requires c κs = search needs
@@ -21,9 +22,7 @@ enum-known-anchored-2 : tie.Need-enum-known-anchored-2
 enum-known-anchored-2 c = search needs
 
 put-new-requires : tie.Need-put-new-requires
-put-new-requires c κs =
-    let p = added-sits (c .before .before .before .before .before .before .before .before .before .put-anchor .ensures) _ _ (c .before .before .before .anchored2 .given .1) in
-    ((c .before .before .before .before .before .before .before .before .before .before .before .before .before .before .before .pre .0 .0, p .1), (p .0, p .2 refl))
+put-new-requires c κs = search needs
 
 same-length : tie.Need-same-length
 same-length c = search needs
@@ -33,7 +32,9 @@ same-length-2 c = search needs
 
 returns : tie.Need-returns
 unfolding ended
-returns c = added-stop (c .before .before .before .before .before .before .before .put-anchor .ensures) _ _ _ (c .before .anchored .given .1)
+returns c =
+    let s = c .before .before .before .before .before .before .before .before .before .before .before .before .before .pre in
+    added-stop (c .before .before .before .before .before .before .before .put-anchor .ensures (begun-of (s .0) (s .1 .0)) (s .1 .1)) _ _ _ (c .before .anchored .given .1)
 
 same-length-3 : tie.Need-same-length-3
 same-length-3 c = search needs
@@ -43,7 +44,12 @@ same-length-4 c = search needs
 
 returns-2 : tie.Need-returns-2
 unfolding ended
-returns-2 c = added-on (c .before .before .before .before .before .before .before .before .before .before .before .before .before .before .put-anchor .ensures) _ _ _ _ _ _ _ (c .before .before .before .before .before .before .before .before .anchored2 .given .1) (c .before .before .before .before .put-new .ensures)
+returns-2 c =
+    let s = c .before .before .before .before .before .before .before .before .before .before .before .before .before .before .before .before .before .before .before .before .pre in
+    let a = c .before .before .before .before .before .before .before .before .before .before .before .before .before .before .put-anchor .ensures (begun-of (s .0) (s .1 .0)) (s .1 .1) in
+    let e = c .before .before .before .before .before .before .before .before .anchored2 .given .1 in
+    let p = added-sits a _ _ e in
+    added-on a _ _ _ _ _ _ _ e (c .before .before .before .before .put-new .ensures (begun-of (s .0 .0, p .1) (p .0)) (p .2 refl))
 
 pub end-spec : {M : Type 1} → statement M
 end-spec =

@@ -6,9 +6,9 @@ use Rattle.schedule.proofs.backwards.put_penultimate.Statement.{stateme
 use Rattle.schedule.proofs.backwards.put_penultimate.Tie as tie
 use Rattle.schedule.proofs.backwards.put_penultimate.Reads as reads
 use Rattle.schedule.proofs.backwards.put_penultimate.Lts as lts
-use Rattle.schedule.proofs.candidates.candidate.Reads as candidate-reads
-use Rattle.schedule.proofs.lists.put.Reads as put-reads
-use Rattle.schedule.proofs.merges.same_flag.Reads as same-flag-reads
+use Rattle.working.proofs.candidates.candidate.Reads as candidate-reads
+use Rattle.working.proofs.lists.put.Reads as put-reads
+use Rattle.working.proofs.lists.same_flag.Reads as same-flag-reads
 
 returns : tie.Need-returns
 returns c = penultimate-absent _ _ (c .before .before .before .pre .0) (c .before .before .before .pre .1) _ (c .if1 .taken)
@@ -41,7 +41,7 @@ same-length-2 : tie.Need-same-length-2
 same-length-2 c = search needs
 
 returns-4 : tie.Need-returns-4
-returns-4 c = penultimate-put _ _ (c .before .before .before .before .before .before .before .before .before .before .before .before .before .before .before .before .pre .0) (c .before .before .before .before .before .before .before .before .before .before .before .before .before .before .before .before .pre .1) _ (c .before .before .before .before .before .before .before .before .before .before .before .before .before .if1 .left) (c .before .before .before .before .before .before .before .before .before .before .before .before .if2 .left) (c .before .before .before .before .before .before .before .before .before .before .before .candidate .result) (c .before .before .before .before .before .before .before .before .before .before .before .candidate .ensures) (c .before .before .before .before .before .before .before .before .before .next2 .given .0 .0) (c .before .before .before .before .before .before .before .before .before .next2 .given .1) _ (c .before .before .before .before .before .before .before .same-flag .ensures) _ _ _ (c .before .before .before .before .put .ensures)
+returns-4 c = penultimate-put _ _ (c .before .before .before .before .before .before .before .before .before .before .before .before .before .before .before .before .pre .0) (c .before .before .before .before .before .before .before .before .before .before .before .before .before .before .before .before .pre .1) _ (c .before .before .before .before .before .before .before .before .before .before .before .before .before .if1 .left) (c .before .before .before .before .before .before .before .before .before .before .before .before .if2 .left) (c .before .before .before .before .before .before .before .before .before .before .before .candidate .result) (c .before .before .before .before .before .before .before .before .before .before .before .candidate .ensures) (c .before .before .before .before .before .before .before .before .before .next2 .given .0 .0) (c .before .before .before .before .before .before .before .before .before .next2 .given .1) _ (c .before .before .before .before .before .before .before .same-flag .ensures) _ _ _ (c .before .before .before .before .put .ensures (c .before .before .before .before .before .before .before .before .before .before .before .before .before .before .before .before .pre .0))
 
 pub put-penultimate-spec : {M : Type 1} → statement M
 put-penultimate-spec =

@@ -1,6 +1,7 @@
 -- `schedule::forwards::close` meets its contract.
 -- Assumes nothing.
-use Rattle.schedule.proofs.Chains.{filling-as}
+use Rattle.working.specs.Chains.{filling-as}
+use Rattle.working.specs.Held.{in-part}
 use Rattle.schedule.proofs.Forthing.{close-stop, close-closed, close-same, close-put}
 use borrow.Author.Needs.{needs}
 use Rattle.schedule.proofs.forwards.close.Statement.{statement}
@@ -9,7 +10,7 @@ use Rattle.schedule.proofs.forwards.close.Reads as reads
 use Rattle.schedule.proofs.forwards.close.Lts as lts
 use Rattle.calendar.proofs.search.adjust.Reads as adjust-reads
 use Rattle.schedule.proofs.forwards.put_closing.Reads as put-closing-reads
-use Rattle.schedule.proofs.lists.newest.Reads as newest-reads
+use Rattle.working.proofs.lists.newest.Reads as newest-reads
 
 newest-requires : tie.Need-newest-requires
 newest-requires c κs = search needs
@@ -36,7 +37,7 @@ same-length : tie.Need-same-length
 same-length c = search needs
 
 returns : tie.Need-returns
-returns c = close-same _ _ (c .before .before .before .before .before .before .before .before .before .before .before .before .before .before .before .before .pre .0) (c .before .before .before .before .before .before .before .before .before .before .before .before .before .before .before .before .pre .1) _ (c .before .before .before .before .before .before .before .before .before .before .before .newest .ensures) (c .before .before .before .before .before .before .before .before .before .before .adjust .result) (c .before .before .before .before .before .before .before .before .before .before .adjust .ensures (c .before .before .before .before .before .before .before .before .before .before .before .before .before .before .before .before .pre .2)) _ (c .before .before .before .before .before .before .before .before .last2 .given .1) (c .before .before .before .before .before .before .adjust2 .result) (c .before .before .before .before .before .before .adjust2 .ensures (c .before .before .before .before .before .before .before .before .before .before .before .before .before .before .before .before .pre .2)) _ (c .before .before .before .before .moved2 .given .1) (c .if1 .taken)
+returns c = close-same _ _ (c .before .before .before .before .before .before .before .before .before .before .before .before .before .before .before .before .pre .0) (c .before .before .before .before .before .before .before .before .before .before .before .before .before .before .before .before .pre .1) _ (in-part (c .before .before .before .before .before .before .before .before .before .before .before .before .before .before .before .before .pre .0) (c .before .before .before .before .before .before .before .before .before .before .before .newest .ensures)) (c .before .before .before .before .before .before .before .before .before .before .adjust .result) (c .before .before .before .before .before .before .before .before .before .before .adjust .ensures (c .before .before .before .before .before .before .before .before .before .before .before .before .before .before .before .before .pre .2)) _ (c .before .before .before .before .before .before .before .before .last2 .given .1) (c .before .before .before .before .before .before .adjust2 .result) (c .before .before .before .before .before .before .adjust2 .ensures (c .before .before .before .before .before .before .before .before .before .before .before .before .before .before .before .before .pre .2)) _ (c .before .before .before .before .moved2 .given .1) (c .if1 .taken)
 
 put-closing-requires : tie.Need-put-closing-requires
 put-closing-requires c κs = search needs
@@ -45,13 +46,13 @@ same-length-2 : tie.Need-same-length-2
 same-length-2 c = search needs
 
 returns-2 : tie.Need-returns-2
-returns-2 c = close-stop _ _ (c .before .before .before .before .before .before .before .before .before .pre .0) (c .before .before .before .before .before .before .before .before .before .pre .1) _ (c .before .before .before .before .newest .ensures) (c .before .before .before .adjust .result) (c .before .before .before .adjust .ensures (c .before .before .before .before .before .before .before .before .before .pre .2)) _ (c .before .last .given .1)
+returns-2 c = close-stop _ _ (c .before .before .before .before .before .before .before .before .before .pre .0) (c .before .before .before .before .before .before .before .before .before .pre .1) _ (in-part (c .before .before .before .before .before .before .before .before .before .pre .0) (c .before .before .before .before .newest .ensures)) (c .before .before .before .adjust .result) (c .before .before .before .adjust .ensures (c .before .before .before .before .before .before .before .before .before .pre .2)) _ (c .before .last .given .1)
 
 same-length-3 : tie.Need-same-length-3
 same-length-3 c = search needs
 
 returns-3 : tie.Need-returns-3
-returns-3 c = close-closed _ _ (c .before .before .before .before .before .before .before .before .before .before .before .before .before .pre .0) (c .before .before .before .before .before .before .before .before .before .before .before .before .before .pre .1) _ (c .before .before .before .before .before .before .before .before .newest .ensures) (c .before .before .before .before .before .before .before .adjust .result) (c .before .before .before .before .before .before .before .adjust .ensures (c .before .before .before .before .before .before .before .before .before .before .before .before .before .pre .2)) _ (c .before .before .before .before .before .last2 .given .1) (c .before .before .before .adjust2 .result) (c .before .before .before .adjust2 .ensures (c .before .before .before .before .before .before .before .before .before .before .before .before .before .pre .2)) _ (c .before .moved .given .1)
+returns-3 c = close-closed _ _ (c .before .before .before .before .before .before .before .before .before .before .before .before .before .pre .0) (c .before .before .before .before .before .before .before .before .before .before .before .before .before .pre .1) _ (in-part (c .before .before .before .before .before .before .before .before .before .before .before .before .before .pre .0) (c .before .before .before .before .before .before .before .before .newest .ensures)) (c .before .before .before .before .before .before .before .adjust .result) (c .before .before .before .before .before .before .before .adjust .ensures (c .before .before .before .before .before .before .before .before .before .before .before .before .before .pre .2)) _ (c .before .before .before .before .before .last2 .given .1) (c .before .before .before .adjust2 .result) (c .before .before .before .adjust2 .ensures (c .before .before .before .before .before .before .before .before .before .before .before .before .before .pre .2)) _ (c .before .moved .given .1)
 
 same-length-4 : tie.Need-same-length-4
 same-length-4 c = search needs
@@ -60,7 +61,7 @@ same-length-5 : tie.Need-same-length-5
 same-length-5 c = search needs
 
 returns-4 : tie.Need-returns-4
-returns-4 c = filling-as (close-put _ _ (c .before .before .before .before .before .before .before .before .before .before .before .before .before .before .before .before .before .before .before .before .before .before .before .pre .0) (c .before .before .before .before .before .before .before .before .before .before .before .before .before .before .before .before .before .before .before .before .before .before .before .pre .1) _ (c .before .before .before .before .before .before .before .before .before .before .before .before .before .before .before .before .before .before .newest .ensures) (c .before .before .before .before .before .before .before .before .before .before .before .before .before .before .before .before .before .adjust .result) (c .before .before .before .before .before .before .before .before .before .before .before .before .before .before .before .before .before .adjust .ensures (c .before .before .before .before .before .before .before .before .before .before .before .before .before .before .before .before .before .before .before .before .before .before .before .pre .2)) _ (c .before .before .before .before .before .before .before .before .before .before .before .before .before .before .before .last2 .given .1) (c .before .before .before .before .before .before .before .before .before .before .before .before .before .adjust2 .result) (c .before .before .before .before .before .before .before .before .before .before .before .before .before .adjust2 .ensures (c .before .before .before .before .before .before .before .before .before .before .before .before .before .before .before .before .before .before .before .before .before .before .before .pre .2)) _ (c .before .before .before .before .before .before .before .before .before .before .before .moved2 .given .1) (c .before .before .before .before .before .before .before .if1 .left)) (c .before .before .before .before .put-closing .ensures)
+returns-4 c = filling-as (close-put _ _ (c .before .before .before .before .before .before .before .before .before .before .before .before .before .before .before .before .before .before .before .before .before .before .before .pre .0) (c .before .before .before .before .before .before .before .before .before .before .before .before .before .before .before .before .before .before .before .before .before .before .before .pre .1) _ (in-part (c .before .before .before .before .before .before .before .before .before .before .before .before .before .before .before .before .before .before .before .before .before .before .before .pre .0) (c .before .before .before .before .before .before .before .before .before .before .before .before .before .before .before .before .before .before .newest .ensures)) (c .before .before .before .before .before .before .before .before .before .before .before .before .before .before .before .before .before .adjust .result) (c .before .before .before .before .before .before .before .before .before .before .before .before .before .before .before .before .before .adjust .ensures (c .before .before .before .before .before .before .before .before .before .before .before .before .before .before .before .before .before .before .before .before .before .before .before .pre .2)) _ (c .before .before .before .before .before .before .before .before .before .before .before .before .before .before .before .last2 .given .1) (c .before .before .before .before .before .before .before .before .before .before .before .before .before .adjust2 .result) (c .before .before .before .before .before .before .before .before .before .before .before .before .before .adjust2 .ensures (c .before .before .before .before .before .before .before .before .before .before .before .before .before .before .before .before .before .before .before .before .before .before .before .pre .2)) _ (c .before .before .before .before .before .before .before .before .before .before .before .moved2 .given .1) (c .before .before .before .before .before .before .before .if1 .left)) (c .before .before .before .before .put-closing .ensures)
 
 pub close-spec : {M : Type 1} → statement M
 close-spec =

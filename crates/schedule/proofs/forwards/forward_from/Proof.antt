@@ -1,19 +1,20 @@
 -- `schedule::forwards::forward_from` meets its contract.
 -- Assumes nothing.
-use mathlib.Core.Path.{_≡_, refl}
+use Rattle.working.specs.Held.{begun-of}
+use Rattle.working.specs.Paces.{pace-checked}
+use mathlib.Core.Path.{refl, _∙_}
 use Rattle.steps.specs.Generate.{forwardFrom}
-use Rattle.schedule.specs.Turning.{SeedOk, PaceOk}
 use Rattle.schedule.proofs.Chains.{walking-as, walked-stands, walked-ends, walked-makes}
-use Rattle.schedule.proofs.Backing.{seed-ok, pace-ok, loop-is}
+use Rattle.schedule.proofs.Backing.{loop-is}
 use borrow.Author.Needs.{needs}
 use Rattle.schedule.proofs.forwards.forward_from.Statement.{statement}
 use Rattle.schedule.proofs.forwards.forward_from.Tie as tie
 use Rattle.schedule.proofs.forwards.forward_from.Reads as reads
 use Rattle.schedule.proofs.forwards.forward_from.Lts as lts
 use Rattle.schedule.proofs.backwards.anchor_or.Reads as anchor-or-reads
-use Rattle.schedule.proofs.candidates.pace_of.Reads as pace-of-reads
+use Rattle.working.proofs.candidates.pace_of.Reads as pace-of-reads
 use Rattle.schedule.proofs.forwards.forward_end.Reads as forward-end-reads
-use Rattle.schedule.proofs.walks.walk.Reads as walk-reads
+use Rattle.working.proofs.walks.walk.Reads as walk-reads
 use Rattle.steps.proofs.seeds.seed_of.Reads as seed-of-reads
 
 pace-of-requires : tie.Need-pace-of-requires
@@ -26,11 +27,7 @@ seed-of-requires : tie.Need-seed-of-requires
 seed-of-requires c κs = search needs
 
 walk-requires : tie.Need-walk-requires
-walk-requires c κs =
-    let b = c .before .before .before .before .before .before .before .before .before .pre .0 in
-    let so : SeedOk (c .before .before .seed-of .result) = rw (c .before .before .seed-of .ensures) (seed-ok _ _ (b .2) (b .3)) in
-    let po : PaceOk (c .before .before .before .before .pace-of .result) = rw (c .before .before .before .before .pace-of .ensures) (pace-ok _ _ (b .0)) in
-    (b .0 .calendar, ((so, po, b .1), c .before .before .before .before .before .before .before .before .before .pre .1))
+walk-requires c κs = search needs
 
 enum-known-walked : tie.Need-enum-known-walked
 enum-known-walked c = search needs
@@ -40,8 +37,9 @@ enum-known-walked-2 c = search needs
 
 forward-end-requires : tie.Need-forward-end-requires
 forward-end-requires c κs =
-    let p = walked-stands (c .before .before .before .before .before .before .before .before .before .walk .ensures) _ _ _ (c .before .before .before .walked2 .given .1) in
-    ((c .before .before .before .before .before .before .before .before .before .before .before .before .before .before .before .before .before .before .before .pre .0 .0 .calendar, p .1), (p .0, p .2))
+    let s = c .before .before .before .before .before .before .before .before .before .before .before .before .before .before .before .before .before .before .before .pre in
+    let p = walked-stands (c .before .before .before .before .before .before .before .before .before .walk .ensures (begun-of (s .0 .0 .calendar, s .0 .1) (s .1))) _ _ _ (c .before .before .before .walked2 .given .1) in
+    ((s .0 .0 .calendar, p .1), (p .0, p .2))
 
 same-length : tie.Need-same-length
 same-length c = search needs
@@ -52,8 +50,9 @@ same-length-2 c = search needs
 returns : tie.Need-returns
 unfolding forwardFrom
 returns c =
-    let is = loop-is _ _ _ _ _ _ _ _ _ _ _ (c .before .before .before .before .before .before .before .before .before .before .before .before .pace-of .ensures) (c .before .before .before .before .before .before .before .before .before .before .seed-of .ensures) refl (c .before .before .before .before .before .before .before .before .before .before .before .anchor-or .ensures) in
-    walked-ends (walking-as is (c .before .before .before .before .before .before .before .walk .ensures)) _ _ (c .before .walked .given .1)
+    let s = c .before .before .before .before .before .before .before .before .before .before .before .before .before .before .before .before .before .pre in
+    let is = loop-is _ _ _ _ _ _ _ _ _ _ _ (c .before .before .before .before .before .before .before .before .before .before .before .before .pace-of .ensures ∙ pace-checked _ (s .0 .0 .tenor)) (c .before .before .before .before .before .before .before .before .before .before .seed-of .ensures) refl (c .before .before .before .before .before .before .before .before .before .before .before .anchor-or .ensures) in
+    walked-ends (walking-as is (c .before .before .before .before .before .before .before .walk .ensures (begun-of (s .0 .0 .calendar, s .0 .1) (s .1)))) _ _ (c .before .walked .given .1)
 
 same-length-3 : tie.Need-same-length-3
 same-length-3 c = search needs
@@ -64,8 +63,9 @@ same-length-4 c = search needs
 returns-2 : tie.Need-returns-2
 unfolding forwardFrom
 returns-2 c =
-    let is = loop-is _ _ _ _ _ _ _ _ _ _ _ (c .before .before .before .before .before .before .before .before .before .before .before .before .before .before .before .before .before .before .before .pace-of .ensures) (c .before .before .before .before .before .before .before .before .before .before .before .before .before .before .before .before .before .seed-of .ensures) refl (c .before .before .before .before .before .before .before .before .before .before .before .before .before .before .before .before .before .before .anchor-or .ensures) in
-    walked-makes (walking-as is (c .before .before .before .before .before .before .before .before .before .before .before .before .before .before .walk .ensures)) _ _ _ _ _ _ _ (c .before .before .before .before .before .before .before .before .walked2 .given .1) (c .before .before .before .before .forward-end .ensures)
+    let s = c .before .before .before .before .before .before .before .before .before .before .before .before .before .before .before .before .before .before .before .before .before .before .before .before .pre in
+    let is = loop-is _ _ _ _ _ _ _ _ _ _ _ (c .before .before .before .before .before .before .before .before .before .before .before .before .before .before .before .before .before .before .before .pace-of .ensures ∙ pace-checked _ (s .0 .0 .tenor)) (c .before .before .before .before .before .before .before .before .before .before .before .before .before .before .before .before .before .seed-of .ensures) refl (c .before .before .before .before .before .before .before .before .before .before .before .before .before .before .before .before .before .before .anchor-or .ensures) in
+    walked-makes (walking-as is (c .before .before .before .before .before .before .before .before .before .before .before .before .before .before .walk .ensures (begun-of (s .0 .0 .calendar, s .0 .1) (s .1)))) _ _ _ _ _ _ _ (c .before .before .before .before .before .before .before .before .walked2 .given .1) (c .before .before .before .before .forward-end .ensures)
 
 pub forward-from-spec : {M : Type 1} → statement M
 forward-from-spec =

@@ -1,14 +1,13 @@
 -- `schedule::forwards::put_closing` meets its contract.
 -- Assumes nothing.
-use Rattle.schedule.proofs.Openers.{stopped}
-use Rattle.schedule.proofs.Chains.{filling-as}
+use Rattle.working.specs.Chains.{filling-as, stopped}
 use Rattle.schedule.proofs.Forthing.{closing-plain, closing-stop, closing-twentieth}
 use borrow.Author.Needs.{needs}
 use Rattle.schedule.proofs.forwards.put_closing.Statement.{statement}
 use Rattle.schedule.proofs.forwards.put_closing.Tie as tie
 use Rattle.schedule.proofs.forwards.put_closing.Reads as reads
 use Rattle.schedule.proofs.forwards.put_closing.Lts as lts
-use Rattle.schedule.proofs.lists.put.Reads as put-reads
+use Rattle.working.proofs.lists.put.Reads as put-reads
 use Rattle.steps.proofs.rules.on_twentieths.Reads as on-twentieths-reads
 use Rattle.steps.proofs.twentieths.next.Reads as next-reads
 
@@ -37,7 +36,7 @@ same-length-2 : tie.Need-same-length-2
 same-length-2 c = search needs
 
 returns-2 : tie.Need-returns-2
-returns-2 c = filling-as (closing-twentieth _ _ _ (c .before .before .before .before .before .before .before .before .before .before .before .before .on-twentieths .result) (c .before .before .before .before .before .before .before .before .before .before .before .before .on-twentieths .ensures) (c .before .before .before .before .before .before .before .before .before .before .before .if1 .taken) (c .before .before .before .before .before .before .before .before .before .before .next .result) (c .before .before .before .before .before .before .before .before .before .before .next .ensures) _ (c .before .before .before .before .before .before .before .before .next3 .given .1)) (c .before .before .before .before .put .ensures)
+returns-2 c = filling-as (closing-twentieth _ _ _ (c .before .before .before .before .before .before .before .before .before .before .before .before .on-twentieths .result) (c .before .before .before .before .before .before .before .before .before .before .before .before .on-twentieths .ensures) (c .before .before .before .before .before .before .before .before .before .before .before .if1 .taken) (c .before .before .before .before .before .before .before .before .before .before .next .result) (c .before .before .before .before .before .before .before .before .before .before .next .ensures) _ (c .before .before .before .before .before .before .before .before .next3 .given .1)) (c .before .before .before .before .put .ensures (c .before .before .before .before .before .before .before .before .before .before .before .before .before .before .before .pre))
 
 put-requires-2 : tie.Need-put-requires-2
 put-requires-2 c κs = search needs
@@ -49,7 +48,7 @@ same-length-4 : tie.Need-same-length-4
 same-length-4 c = search needs
 
 returns-3 : tie.Need-returns-3
-returns-3 c = filling-as (closing-plain _ _ _ (c .before .before .before .before .before .before .before .before .on-twentieths .result) (c .before .before .before .before .before .before .before .before .on-twentieths .ensures) (c .before .before .before .before .before .before .before .if1 .left)) (c .before .before .before .before .put2 .ensures)
+returns-3 c = filling-as (closing-plain _ _ _ (c .before .before .before .before .before .before .before .before .on-twentieths .result) (c .before .before .before .before .before .before .before .before .on-twentieths .ensures) (c .before .before .before .before .before .before .before .if1 .left)) (c .before .before .before .before .put2 .ensures (c .before .before .before .before .before .before .before .before .before .before .before .pre))
 
 pub put-closing-spec : {M : Type 1} → statement M
 put-closing-spec =

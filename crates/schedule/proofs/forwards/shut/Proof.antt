@@ -1,5 +1,6 @@
 -- `schedule::forwards::shut` meets its contract.
 -- Assumes nothing.
+use Rattle.working.specs.Held.{begun-of}
 use Rattle.steps.specs.Generate.{shut}
 use Rattle.schedule.proofs.Chains.{added-sits}
 use Rattle.schedule.proofs.Forthing.{shut-stop, shut-on}
@@ -8,7 +9,7 @@ use Rattle.schedule.proofs.forwards.shut.Statement.{statement}
 use Rattle.schedule.proofs.forwards.shut.Tie as tie
 use Rattle.schedule.proofs.forwards.shut.Reads as reads
 use Rattle.schedule.proofs.forwards.shut.Lts as lts
-use Rattle.schedule.proofs.adds.put_anchor.Reads as put-anchor-reads
+use Rattle.working.proofs.adds.put_anchor.Reads as put-anchor-reads
 use Rattle.schedule.proofs.forwards.close.Reads as close-reads
 
 put-anchor-requires : tie.Need-put-anchor-requires
@@ -22,8 +23,9 @@ enum-known-anchored-2 c = search needs
 
 close-requires : tie.Need-close-requires
 close-requires c κs =
-    let p = added-sits (c .before .before .before .before .before .before .before .before .before .put-anchor .ensures) _ _ (c .before .before .before .anchored2 .given .1) in
-    (p .0, p .1, c .before .before .before .before .before .before .before .before .before .before .before .before .before .before .before .pre .0 .0)
+    let s = c .before .before .before .before .before .before .before .before .before .before .before .before .before .before .before .pre in
+    let p = added-sits (c .before .before .before .before .before .before .before .before .before .put-anchor .ensures (begun-of (s .0) (s .1 .0)) (s .1 .1)) _ _ (c .before .before .before .anchored2 .given .1) in
+    (p .0, p .1, s .0 .0)
 
 same-length : tie.Need-same-length
 same-length c = search needs
@@ -33,7 +35,9 @@ same-length-2 c = search needs
 
 returns : tie.Need-returns
 unfolding shut
-returns c = shut-stop (c .before .before .before .before .before .before .before .put-anchor .ensures) _ _ (c .before .anchored .given .1)
+returns c =
+    let s = c .before .before .before .before .before .before .before .before .before .before .before .before .before .pre in
+    shut-stop (c .before .before .before .before .before .before .before .put-anchor .ensures (begun-of (s .0) (s .1 .0)) (s .1 .1)) _ _ (c .before .anchored .given .1)
 
 same-length-3 : tie.Need-same-length-3
 same-length-3 c = search needs
@@ -43,7 +47,9 @@ same-length-4 c = search needs
 
 returns-2 : tie.Need-returns-2
 unfolding shut
-returns-2 c = shut-on (c .before .before .before .before .before .before .before .before .before .before .before .before .before .before .put-anchor .ensures) _ _ _ _ _ _ (c .before .before .before .before .before .before .before .before .anchored2 .given .1) (c .before .before .before .before .close .ensures)
+returns-2 c =
+    let s = c .before .before .before .before .before .before .before .before .before .before .before .before .before .before .before .before .before .before .before .before .pre in
+    shut-on (c .before .before .before .before .before .before .before .before .before .before .before .before .before .before .put-anchor .ensures (begun-of (s .0) (s .1 .0)) (s .1 .1)) _ _ _ _ _ _ (c .before .before .before .before .before .before .before .before .anchored2 .given .1) (c .before .before .before .before .close .ensures)
 
 pub shut-spec : {M : Type 1} → statement M
 shut-spec =

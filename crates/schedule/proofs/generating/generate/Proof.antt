@@ -1,7 +1,7 @@
 -- `schedule::generating::generate` meets its contract.
 -- Assumes nothing.
 use Rattle.schedule.proofs.Chains.{generates-as}
-use Rattle.schedule.proofs.Building.{buildable, generate-zero, generate-back, generate-forth}
+use Rattle.schedule.proofs.Building.{generate-zero, generate-back, generate-forth}
 use borrow.Author.Needs.{needs}
 use Rattle.schedule.proofs.generating.generate.Statement.{statement}
 use Rattle.schedule.proofs.generating.generate.Tie as tie
@@ -36,7 +36,7 @@ is-backward-requires : tie.Need-is-backward-requires
 is-backward-requires c κs = search needs
 
 backward-requires : tie.Need-backward-requires
-backward-requires c κs = (buildable _ _ _ (c .before .before .before .before .before .before .rule-in-force .ensures) (c .before .before .before .before .before .is-zero .result) (c .before .before .before .before .before .is-zero .ensures) (c .before .before .before .before .if1 .left) (c .before .before .before .before .before .before .before .before .before .before .pre .0), c .before .before .before .before .before .before .before .before .before .before .pre .1)
+backward-requires c κs = search needs
 
 same-length-3 : tie.Need-same-length-3
 same-length-3 c = search needs
@@ -48,7 +48,7 @@ returns-2 : tie.Need-returns-2
 returns-2 c = generates-as (generate-back _ _ _ (c .before .before .before .before .before .before .before .before .before .before .before .rule-in-force .ensures) (c .before .before .before .before .before .before .before .before .before .before .is-zero .result) (c .before .before .before .before .before .before .before .before .before .before .is-zero .ensures) _ (c .before .before .before .before .before .before .before .before .before .if1 .left) (c .before .before .before .before .before .before .before .before .is-backward .result) (c .before .before .before .before .before .before .before .before .is-backward .ensures) (c .before .before .before .before .before .before .before .if2 .taken)) (c .before .before .before .before .backward .ensures)
 
 forward-requires : tie.Need-forward-requires
-forward-requires c κs = (buildable _ _ _ (c .before .before .before .before .before .before .rule-in-force .ensures) (c .before .before .before .before .before .is-zero .result) (c .before .before .before .before .before .is-zero .ensures) (c .before .before .before .before .if1 .left) (c .before .before .before .before .before .before .before .before .before .before .pre .0), c .before .before .before .before .before .before .before .before .before .before .pre .1)
+forward-requires c κs = search needs
 
 same-length-5 : tie.Need-same-length-5
 same-length-5 c = search needs

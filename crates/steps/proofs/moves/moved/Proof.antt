@@ -1,5 +1,6 @@
 -- `steps::moves::moved` meets its contract.
 -- Assumes nothing.
+use mathlib.Core.Path.{refl}
 use Rattle.date.specs.Date.{dated}
 use Rattle.steps.specs.Finish.{moved}
 use borrow.Author.Needs.{needs}
@@ -41,23 +42,23 @@ last-open-requires c κs = search needs
 
 returns : tie.Need-returns
 unfolding dated moved
-returns c = λ ok. cc
+returns c = λ ok. rw (c .enum-told .given .1) refl
 
 returns-2 : tie.Need-returns-2
 unfolding moved
-returns-2 c = λ ok. cc
+returns-2 c = λ ok. rw (c .before .enum-told2 .given .1) (c .third-wednesday .ensures)
 
 returns-3 : tie.Need-returns-3
 unfolding moved
-returns-3 c = λ ok. cc (c .adjust .ensures ok)
+returns-3 c = λ ok. rw (c .before .before .what .given .1) (c .adjust .ensures ok)
 
 returns-4 : tie.Need-returns-4
 unfolding moved
-returns-4 c = λ ok. cc
+returns-4 c = λ ok. rw (c .before .enum-told3 .given .1) (c .last-of-month .ensures)
 
 returns-5 : tie.Need-returns-5
 unfolding moved
-returns-5 c = λ ok. cc (c .last-open .ensures ok)
+returns-5 c = λ ok. rw (c .before .enum-told4 .given .1) (c .last-open .ensures ok)
 
 pub moved-spec : {M : Type 1} → statement M
 moved-spec =

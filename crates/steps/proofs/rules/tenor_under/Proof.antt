@@ -1,5 +1,6 @@
 -- `steps::rules::tenor_under` meets its contract.
 -- Assumes nothing.
+use mathlib.Core.Path.{refl}
 use Rattle.steps.specs.Rules.{tenorUnder}
 use borrow.Author.Needs.{needs}
 use Rattle.steps.proofs.rules.tenor_under.Statement.{statement}
@@ -39,43 +40,43 @@ enum-told-10 c = search needs
 
 returns : tie.Need-returns
 unfolding tenorUnder
-returns c = cc
+returns c = rw (c .enum-told .given .1) refl
 
 returns-2 : tie.Need-returns-2
 unfolding tenorUnder
-returns-2 c = cc
+returns-2 c = rw (c .enum-told2 .given .1) refl
 
 returns-3 : tie.Need-returns-3
 unfolding tenorUnder
-returns-3 c = cc
+returns-3 c = rw (c .enum-told3 .given .1) refl
 
 returns-4 : tie.Need-returns-4
 unfolding tenorUnder
-returns-4 c = cc
+returns-4 c = rw (c .enum-told4 .given .1) refl
 
 returns-5 : tie.Need-returns-5
 unfolding tenorUnder
-returns-5 c = cc
+returns-5 c = rw (c .enum-told5 .given .1) refl
 
 returns-6 : tie.Need-returns-6
 unfolding tenorUnder
-returns-6 c = cc
+returns-6 c = rw (c .enum-told6 .given .1) refl
 
 returns-7 : tie.Need-returns-7
 unfolding tenorUnder
-returns-7 c = cc
+returns-7 c = rw (c .enum-told7 .given .1) refl
 
 returns-8 : tie.Need-returns-8
 unfolding tenorUnder
-returns-8 c = cc
+returns-8 c = rw (c .enum-told8 .given .1) refl
 
 returns-9 : tie.Need-returns-9
 unfolding tenorUnder
-returns-9 c = cc
+returns-9 c = rw (c .enum-told9 .given .1) refl
 
 returns-10 : tie.Need-returns-10
 unfolding tenorUnder
-returns-10 c = cc
+returns-10 c = rw (c .enum-told10 .given .1) refl
 
 pub tenor-under-spec : {M : Type 1} → statement M
 tenor-under-spec =

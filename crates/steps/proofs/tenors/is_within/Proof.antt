@@ -1,5 +1,6 @@
 -- `steps::tenors::is_within` meets its contract.
 -- Assumes nothing.
+use mathlib.Core.Path.{refl}
 use Rattle.calendar.specs.Calendar.{longest, tenorOk}
 use borrow.Author.Needs.{needs}
 use Rattle.steps.proofs.tenors.is_within.Statement.{statement}
@@ -21,19 +22,19 @@ enum-told-4 c = search needs
 
 returns : tie.Need-returns
 unfolding longest tenorOk
-returns c = cc
+returns c = rw (c .enum-told .given .1) refl
 
 returns-2 : tie.Need-returns-2
 unfolding longest tenorOk
-returns-2 c = cc
+returns-2 c = rw (c .enum-told2 .given .1) refl
 
 returns-3 : tie.Need-returns-3
 unfolding longest tenorOk
-returns-3 c = cc
+returns-3 c = rw (c .enum-told3 .given .1) refl
 
 returns-4 : tie.Need-returns-4
 unfolding longest tenorOk
-returns-4 c = cc
+returns-4 c = rw (c .enum-told4 .given .1) refl
 
 pub is-within-spec : {M : Type 1} → statement M
 is-within-spec =

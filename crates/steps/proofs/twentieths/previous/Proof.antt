@@ -33,14 +33,14 @@ unfolding previousTwentieth
 returns c =
     let first = c .before .before .before .before .before .before .twentieth-of in
     let day = c .before .before .before .before .twentieth .given .0 .0 in
-    then-given _ (day .day) _ _ (given-day (first .result) day _ (first .ensures) (cc)) (cc)
+    then-given _ (day .day) _ _ (given-day (first .result) day _ (first .ensures) (c .before .before .before .before .twentieth .given .1)) (cc)
 
 returns-2 : tie.Need-returns-2
 unfolding dated previousTwentieth
 returns-2 c =
     let first = c .before .before .before .twentieth-of in
     let number = c .before .twentieth2 .given .0 .0 in
-    then-refused _ number _ (refused-day (first .result) number _ (first .ensures) (cc))
+    then-refused _ number _ (refused-day (first .result) number _ (first .ensures) (c .before .twentieth2 .given .1))
 
 pub previous-spec : {M : Type 1} → statement M
 previous-spec =

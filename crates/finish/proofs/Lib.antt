@@ -1,0 +1,4 @@
+pub mod Moves
+pub mod Merging
+pub mod Copying
+pub mod Ending

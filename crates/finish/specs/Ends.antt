@@ -1,0 +1,30 @@
+-- What the two merges leave in the part of the working lists that holds the schedule, and what is copied out.
+-- Assumes nothing.
+use Prim.Native.Nat.{ℕ, _-_, _≤_}
+use mathlib.Core.Path.{_≡_}
+use mathlib.Core.List.{List}
+use lib.ListN.{length, take, drop}
+use Rattle.refusal.specs.Answer.{Answer, given, refused}
+use Rattle.steps.specs.Finish.{Merged, mergeEnd, mergeFront}
+use Rattle.finish.specs.declared.merges.Start.{Start}
+use Rattle.finish.specs.declared.merges.Start.the-variants.{At, Refused}
+
+-- the first r dates, and the flags between them, are those of the merge at the end
+pub record EndMerged (ds fs : List ℕ) (r : ℕ) (ds′ fs′ : List ℕ) : Type 0 where
+  pub some : 1 ≤ r
+  pub few : r ≤ length ds
+  pub dates : take r ds′ ≡ mergeEnd ds fs .dates
+  pub flags : take (r - 1) fs′ ≡ mergeEnd ds fs .flags
+
+-- what is left from a place on
+unfoldable pub leftFrom : Start → List ℕ → List ℕ → Answer Merged
+leftFrom (At k) ds fs = given (record { dates = drop k ds; flags = drop k fs })
+leftFrom (Refused n) ds fs = refused n
+
+unfoldable pub Short : Start → ℕ → Type 0
+Short (At k) n = k ≤ 1
+Short (Refused m) n = Unit {0}
+
+pub record FrontMerged (ds fs : List ℕ) (r : Start) (ds′ fs′ : List ℕ) : Type 0 where
+  pub says : leftFrom r ds′ fs′ ≡ mergeFront (record { dates = ds; flags = fs })
+  pub short : Short r (length ds)

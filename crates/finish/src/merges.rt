@@ -1,0 +1,55 @@
+// The two merges that end a build, on the part of the working lists that holds the schedule.
+ghost use mathlib.Core.Path.{_≡_};
+ghost use Prim.Native.Nat.{_+_, _≤_};
+ghost use lib.ListN.{length};
+ghost use Rattle.finish.specs.Ends.{EndMerged, FrontMerged};
+use working::lists::same_flag;
+
+// Where the list starts after the merge at the front.
+pub(crate) enum Start {
+    At(usize),
+    Refused(u8),
+}
+
+// The last date takes the place of one that is not before it. Answers how many dates are left.
+pub(crate) fn merge_end(dates: &mut [u32], flags: &mut [u8]) -> usize
+    requires { ⌜ length (now dates) ≡ length (now flags) + 1 ⌝ }
+    ensures { λ r. ⌜ EndMerged (now (dates .entry)) (now (flags .entry)) r (now (dates .exit)) (now (flags .exit)) ⌝ }
+{
+    let n = dates.len();
+    if n < 2 {
+        return n;
+    }
+    let last = dates[n - 1];
+    let former = dates[n - 2];
+    if former < last {
+        return n;
+    }
+    dates[n - 2] = last;
+    if n < 3 {
+        return n - 1;
+    }
+    flags[n - 3] = same_flag(former, last);
+    n - 1
+}
+
+// The first date takes the place of one that is not after it. Answers where the list then starts, or refusal 15.
+pub(crate) fn merge_front(dates: &mut [u32], flags: &mut [u8]) -> Start
+    requires { ⌜ length (now dates) ≡ length (now flags) + 1 ⌝ }
+    ensures { λ r. ⌜ FrontMerged (now (dates .entry)) (now (flags .entry)) r (now (dates .exit)) (now (flags .exit)) ⌝ }
+{
+    if dates.len() < 2 {
+        return Start::At(0);
+    }
+    let first = dates[0];
+    let next = dates[1];
+    if first < next {
+        return Start::At(0);
+    }
+    if dates.len() < 3 {
+        return Start::Refused(refusal::COLLAPSED);
+    }
+    flags[1] = same_flag(next, first);
+    dates[1] = first;
+    Start::At(1)
+}

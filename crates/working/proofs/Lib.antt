@@ -1,0 +1,6 @@
+pub mod Puts
+pub mod Counting
+pub mod Turns
+pub mod Walking
+pub mod Additions
+pub mod Fuel

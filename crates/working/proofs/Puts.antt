@@ -1,0 +1,117 @@
+-- Lists that grow in an array, from its far end or its near one, and a law for each way through `put`.
+-- Assumes nothing.
+use mathlib.Core.Path.{_≡_, refl, ap, sym, _∙_}
+use mathlib.Core.Bool.{Bool, true, false, false≢true, _&&_}
+use mathlib.Core.List.{List, [], _∷_, reverse, reverse-append}
+use Prim.Native.Nat.{ℕ, suc, _+_, _-_, _≤_, _<_}
+use native.Mathlib.Numerals.{add-one}
+use native.Mathlib.Omega.{arith}
+use lib.ListN.{length, getD, take, drop, set, length-set}
+use lib.Seq.{drop-cons, getD-set-same, drop-set-lt, take-suc, take-suc-set}
+use lib.Dec.{eqb, ltb}
+use borrow.Author.Tests.{lt-ltb, le-ltb, ltb-true, eq-eqb, eqb-true}
+use borrow.Author.Needs.{needs}
+use Rattle.refusal.specs.Answer.{ROOM}
+use Rattle.refusal.specs.Laws.{fails, holds}
+use Rattle.steps.specs.Generate.{put, hasRoom, newest}
+use Rattle.working.specs.declared.Filled.the-variants.{Ready, Refused}
+use Rattle.working.specs.Part.{Part, held, lastPut, hasPlace, placeOf, filled, Placed, Filling}
+use Rattle.working.specs.Held.{put-length, none-put}
+
+-- ---- places
+pub place-back : (back : Bool) (n r : ℕ) → back ≡ true → r ≡ 4095 - n → r ≡ placeOf back n
+unfolding placeOf
+place-back true n r e h = h
+place-back false n r e h = absurd (false≢true e)
+
+pub place-forth : (back : Bool) (n r : ℕ) → back ≡ false → r ≡ n → r ≡ placeOf back n
+unfolding placeOf
+place-forth true n r e h = absurd (false≢true (sym e))
+place-forth false n r e h = h
+
+-- ---- whether there is a place
+module _ (n a b : ℕ) where
+  pub places-yes : hasPlace n a b ≡ true → (n < 4096) × (a ≡ 4096) × (b ≡ 4096)
+  unfolding hasPlace
+  places-yes e = yes (ltb n 4096) (eqb a 4096) (eqb b 4096) refl refl refl e
+    where
+      yes : (x y z : Bool) → ltb n 4096 ≡ x → eqb a 4096 ≡ y → eqb b 4096 ≡ z → (x && (y && z)) ≡ true → (n < 4096) × (a ≡ 4096) × (b ≡ 4096)
+      yes true true true p q r h = (ltb-true n 4096 p, eqb-true a 4096 q, eqb-true b 4096 r)
+      yes true true false p q r h = absurd (false≢true h)
+      yes true false z p q r h = absurd (false≢true h)
+      yes false y z p q r h = absurd (false≢true h)
+
+  pub places-no : hasPlace n a b ≡ false → n < 4096 → a ≡ 4096 → b ≡ 4096 → ⊥
+  unfolding hasPlace
+  places-no e p q r = false≢true (sym e ∙ rw (lt-ltb n 4096 p, eq-eqb a 4096 q, eq-eqb b 4096 r) refl)
+
+-- ---- one element more
+more-back : (l : List ℕ) (n d : ℕ) → length l ≡ 4096 → n < 4096 → drop (4096 - (n + 1)) (set l (4095 - n) d) ≡ d ∷ drop (4096 - n) l
+more-back l n d s h =
+    let e : 4096 - (n + 1) ≡ 4095 - n = omega arith in
+    let f : suc (4095 - n) ≡ 4096 - n = omega arith in
+    let i : 4095 - n < length (set l (4095 - n) d) = rw (length-set l (4095 - n) d) (omega arith) in
+    rw e (drop-cons (set l (4095 - n) d) (4095 - n) 0 i ∙ rw (getD-set-same l (4095 - n) d 0 (omega arith), drop-set-lt (suc (4095 - n)) l (4095 - n) d (omega arith), f))
+
+more-forth : (l : List ℕ) (n d : ℕ) → length l ≡ 4096 → n < 4096 → reverse (take (n + 1) (set l n d)) ≡ d ∷ reverse (take n l)
+more-forth l n d s h = rw (add-one n, take-suc-set l n d (omega arith)) (reverse-append (take n l) (d ∷ []))
+
+pub one-more : (back : Bool) (l : List ℕ) (n d : ℕ) → length l ≡ 4096 → n < 4096 → lastPut back (n + 1) (set l (placeOf back n) d) ≡ d ∷ lastPut back n l
+unfolding lastPut placeOf
+one-more true l n d s h = more-back l n d s h
+one-more false l n d s h = more-forth l n d s h
+
+-- ---- the newest
+newest-back : (l : List ℕ) (n : ℕ) → length l ≡ 4096 → 0 < n → n ≤ 4096 → getD l (4095 - (n - 1)) 0 ≡ getD (drop (4096 - n) l) 0 0
+newest-back l n s p h =
+    let e : 4095 - (n - 1) ≡ 4096 - n = omega arith in
+    rw (e, drop-cons l (4096 - n) 0 (omega arith))
+
+newest-forth : (l : List ℕ) (n : ℕ) → length l ≡ 4096 → 0 < n → n ≤ 4096 → getD l (n - 1) 0 ≡ getD (reverse (take n l)) 0 0
+newest-forth l n s p h =
+    let e : n ≡ suc (n - 1) = omega arith in
+    let f : reverse (take n l) ≡ getD l (n - 1) 0 ∷ reverse (take (n - 1) l) =
+    ap (λ (k : ℕ). reverse (take k l)) e ∙ rw (take-suc l (n - 1) 0 (omega arith)) (reverse-append (take (n - 1) l) (getD l (n - 1) 0 ∷ [])) in
+    rw f
+
+pub newest-at : (back : Bool) (l : List ℕ) (n at : ℕ) → length l ≡ 4096 → 0 < n → n < 4097 → at ≡ placeOf back (n - 1) → getD l at 0 ≡ newest (held back n l l)
+unfolding placeOf held lastPut
+newest-at true l n at s p h e = rw e (newest-back l n s p (omega arith))
+newest-at false l n at s p h e = rw e (newest-forth l n s p (omega arith))
+
+pub newest-none : (back : Bool) (l : List ℕ) (n : ℕ) → length l ≡ 4096 → n ≡ 0 → 0 ≡ newest (held back n l l)
+unfolding held
+newest-none back l n s e = rw (e, none-put back l s) refl
+
+-- ---- put
+module _ {room n : ℕ} {work marks : List ℕ} (back : Bool) (p : Part room n work marks) (day mark : ℕ) where
+  pub put-full : room ≤ n → Filling back room (put room day mark (held back n work marks)) (Refused 14) work marks
+  unfolding put hasRoom filled Placed held
+  put-full h =
+      record {
+        says = fails ROOM _ _ (le-ltb (length (lastPut back n work)) room (let l = put-length back work n (p .work-size) (omega (arith, p)) in omega arith));
+        part = tt;
+      }
+
+  pub put-ready : (at : ℕ) → n < room → at ≡ placeOf back n → Filling back room (put room day mark (held back n work marks)) (Ready (n + 1)) (set work at day) (set marks at mark)
+  unfolding put hasRoom filled Placed held
+  put-ready at h e =
+      let a = one-more back work n day (p .work-size) (omega (arith, p)) in
+      let b = one-more back marks n mark (p .marks-size) (omega (arith, p)) in
+      rw e
+      (record {
+        says =
+            holds ROOM _ _ _ (lt-ltb (length (lastPut back n work)) room (let l = put-length back work n (p .work-size) (omega (arith, p)) in omega arith))
+            (rw (a, b));
+        part = (
+          record {
+            work-size = length-set work (placeOf back n) day ∙ p .work-size;
+            marks-size = length-set marks (placeOf back n) mark ∙ p .marks-size;
+            fits = omega (arith, p);
+            most = p .most;
+          },
+          omega arith,
+        );
+      })
+
+pub ruleset puts = (put-full, put-ready, needs)

@@ -1,0 +1,88 @@
+-- A law for each way through a turn of the loop.
+-- Assumes nothing.
+use mathlib.Core.Path.{_≡_, refl, sym, _∙_}
+use mathlib.Core.Bool.{Bool, true, false, false≢true}
+use mathlib.Core.List.{List}
+use Prim.Native.Nat.{ℕ}
+use lib.Dec.{ltb}
+use borrow.Author.Tests.{eq-eqb, ne-eqb}
+use Rattle.refusal.specs.Answer.{given}
+use Rattle.refusal.specs.Laws.{then-given, then-refused}
+use Rattle.date.specs.declared.Date.{Date}
+use Rattle.date.specs.declared.Dated.{Dated}
+use Rattle.date.specs.declared.Dated.the-variants.{Day, Refused}
+use Rattle.date.specs.Date.{dated}
+use Rattle.date.specs.Made.{given-day, refused-day}
+use Rattle.calendar.specs.declared.Convention.{Convention}
+use Rattle.calendar.specs.Adjust.{adjusted}
+use Rattle.steps.specs.declared.Pace.{Pace}
+use Rattle.steps.specs.declared.Seed.{Seed}
+use Rattle.steps.specs.Candidates.{candidate, isPast, unlessPast, unlessSame, turnOf}
+use Rattle.working.specs.declared.candidates.Turn.{Turn}
+use Rattle.working.specs.declared.candidates.Turn.the-variants.{Past, Skip, Keep, Stop}
+use Rattle.working.specs.Turning.{Front, told, Learnt, Compared}
+
+-- ---- past the exit date
+pub past-back : (back : Bool) (exit day : ℕ) (r : Bool) → back ≡ true → r ≡ ltb day exit → r ≡ isPast back exit day
+unfolding isPast
+past-back true exit day r e h = h
+past-back false exit day r e h = absurd (false≢true e)
+
+pub past-forth : (back : Bool) (exit day : ℕ) (r : Bool) → back ≡ false → r ≡ ltb exit day → r ≡ isPast back exit day
+unfolding isPast
+past-forth true exit day r e h = absurd (false≢true (sym e))
+past-forth false exit day r e h = h
+
+-- ---- the newest date adjusted
+pub front-known : {mask : ℕ} {closed : List ℕ} {convention : Convention} {front newest : ℕ} → Front mask closed convention front newest → (front ≡ 0 → ⊥) → given front ≡ adjusted mask closed convention newest
+front-known f h = sym (f .known h)
+
+pub front-from : (mask : ℕ) (closed : List ℕ) (convention : Convention) (day a : ℕ) → adjusted mask closed convention day ≡ given a → Front mask closed convention a day
+front-from mask closed convention day a e = record { known = λ h. e }
+
+-- ---- a candidate that is not past
+module _ (mask : ℕ) (closed : List ℕ) (convention : Convention) (newest day : ℕ) (held : Dated) (p : dated held ≡ adjusted mask closed convention newest) where
+  pub compare-stop : (n : ℕ) → held ≡ Refused n → Compared mask closed convention newest (unlessPast false mask closed convention newest day) (Stop n)
+  unfolding unlessPast told Learnt
+  compare-stop n e = record { says = then-refused _ n _ (refused-day held n _ p e); learnt = tt }
+
+  module _ (a : Date) (q : held ≡ Day a) (moved : Dated) (s : dated moved ≡ adjusted mask closed convention day) where
+    pub compare-closed : (n : ℕ) → moved ≡ Refused n → Compared mask closed convention newest (unlessPast false mask closed convention newest day) (Stop n)
+    unfolding unlessPast told Learnt
+    compare-closed n e =
+        record {
+          says = then-given _ (a .day) _ _ (given-day held a _ p q) (then-refused _ n _ (refused-day moved n _ s e));
+          learnt = tt;
+        }
+
+    module _ (b : Date) (t : moved ≡ Day b) where
+      pub compare-skip : a .day ≡ b .day → Compared mask closed convention newest (unlessPast false mask closed convention newest day) (Skip (a .day))
+      unfolding unlessPast told Learnt unlessSame
+      compare-skip e =
+          record {
+            says = then-given _ (a .day) _ _ (given-day held a _ p q) (then-given _ (b .day) _ _ (given-day moved b _ s t) (rw (eq-eqb (a .day) (b .day) e) refl));
+            learnt = front-from mask closed convention newest (a .day) (given-day held a _ p q);
+          }
+
+      pub compare-keep : (a .day ≡ b .day → ⊥) → Compared mask closed convention newest (unlessPast false mask closed convention newest day) (Keep day (b .day))
+      unfolding unlessPast told Learnt unlessSame
+      compare-keep e =
+          record {
+            says = then-given _ (a .day) _ _ (given-day held a _ p q) (then-given _ (b .day) _ _ (given-day moved b _ s t) (rw (ne-eqb (a .day) (b .day) e) refl));
+            learnt = front-from mask closed convention day (b .day) (given-day moved b _ s t);
+          }
+
+-- ---- the k-th candidate
+module _ (mask : ℕ) (closed : List ℕ) (convention : Convention) (back : Bool) (pace : Pace) (seed : Seed) (exit newest k : ℕ) (next : Dated) (p : dated next ≡ candidate back pace seed k) where
+  pub turn-stop : (n : ℕ) → next ≡ Refused n → Compared mask closed convention newest (turnOf mask closed convention back pace seed exit newest k) (Stop n)
+  unfolding turnOf told Learnt
+  turn-stop n e = record { says = then-refused _ n _ (refused-day next n _ p e); learnt = tt }
+
+  module _ (d : Date) (e : next ≡ Day d) (b : Bool) (q : b ≡ isPast back exit (d .day)) where
+    pub turn-past : b ≡ true → Compared mask closed convention newest (turnOf mask closed convention back pace seed exit newest k) Past
+    unfolding turnOf told Learnt unlessPast
+    turn-past t = record { says = then-given _ (d .day) _ _ (given-day next d _ p e) (rw (sym q ∙ t) refl); learnt = tt }
+
+    pub turn-on : (r : Turn) → b ≡ false → Compared mask closed convention newest (unlessPast false mask closed convention newest (d .day)) r → Compared mask closed convention newest (turnOf mask closed convention back pace seed exit newest k) r
+    unfolding turnOf
+    turn-on r t c = record { says = then-given _ (d .day) _ _ (given-day next d _ p e) (rw (sym q ∙ t) (c .says)); learnt = c .learnt }

@@ -1,0 +1,113 @@
+-- The invariant of the loop over the candidates, and a law for each way through a turn of it.
+-- Assumes nothing.
+use mathlib.Core.Path.{_≡_, refl, _∙_}
+use mathlib.Core.Bool.{Bool, true}
+use mathlib.Core.List.{List}
+use Prim.Native.Nat.{ℕ, suc, _+_, _-_, _≤_, _<_}
+use native.Mathlib.Numerals.{add-one}
+use native.Mathlib.Omega.{arith}
+use lib.ListN.{length}
+use Rattle.refusal.specs.Answer.{Answer, refused, then, BOOK}
+use Rattle.calendar.specs.declared.Convention.{Convention}
+use Rattle.calendar.specs.Open.{closedOk}
+use Rattle.steps.specs.declared.Pace.{Pace}
+use Rattle.steps.specs.declared.Seed.{Seed}
+use Rattle.steps.specs.Candidates as steps
+use Rattle.steps.specs.Candidates.{turnOf}
+use Rattle.steps.specs.Generate.{Walk, newest, put, onTurn, walk}
+use Rattle.working.specs.declared.Filled.{Filled}
+use Rattle.working.specs.declared.Filled.the-variants as filled-is
+use Rattle.working.specs.declared.candidates.Turn.{Turn}
+use Rattle.working.specs.declared.candidates.Turn.the-variants.{Past, Skip, Keep, Stop}
+use Rattle.working.specs.declared.walks.Walked.the-variants.{Ready, Refused}
+use Rattle.working.specs.Part.{Part, Begun, held, filled, Placed, Filling}
+use Rattle.working.specs.Turning.{Front, told, Learnt, Compared, walked, Stands, Walking}
+use Rattle.working.specs.Held.{newest-alone, put-is-newest}
+
+-- what is left to do from the k-th candidate on comes to the outcome o
+pub record Going (mask : ℕ) (closed : List ℕ) (convention : Convention) (back : Bool) (pace : Pace) (seed : Seed) (exit room : ℕ) (o : Answer Walk) (work marks : List ℕ) (n k front : ℕ) : Type 0 where
+  pub begun : Begun closed room n work marks
+  pub front-known : Front mask closed convention front (newest (held back n work marks))
+  pub same : walk (turnOf mask closed convention back pace seed exit) room (876217 - k) k (held back n work marks) ≡ o
+
+front-unknown : (mask : ℕ) (closed : List ℕ) (convention : Convention) (day : ℕ) → Front mask closed convention 0 day
+front-unknown mask closed convention day = record { known = λ h. absurd (h refl) }
+
+pub going-start : (mask : ℕ) (closed : List ℕ) (convention : Convention) (back : Bool) (pace : Pace) (seed : Seed) (exit room n : ℕ) (work marks : List ℕ) → Begun closed room n work marks → Going mask closed convention back pace seed exit room (walk (turnOf mask closed convention back pace seed exit) room 876216 1 (held back n work marks)) work marks n 1 0
+going-start mask closed convention back pace seed exit room n work marks b =
+    record { begun = b; front-known = front-unknown mask closed convention _; same = refl }
+
+module _ {mask : ℕ} {closed : List ℕ} {convention : Convention} {back : Bool} {pace : Pace} {seed : Seed} {exit room : ℕ} {o : Answer Walk} {work marks : List ℕ} {n k front : ℕ} (g : Going mask closed convention back pace seed exit room o work marks n k front) where
+  -- the candidates have been looked at
+  pub walk-out : 876216 < k → Walking mask closed convention back room o (Refused 2) work marks
+  unfolding walk walked Stands
+  walk-out h =
+      let a : 876217 - k ≡ 0 = omega arith in
+      let s : refused BOOK ≡ o = rw a at (g .same) in
+      record { says = s; stands = tt }
+
+  module _ (near : k ≤ 876216) (day : ℕ) (at : length work ≡ 4096 → n < 4097 → day ≡ newest (held back n work work)) where
+    here : day ≡ newest (held back n work marks)
+    here =
+        let p = g .begun .part in
+        at (p .work-size) (omega (arith, p)) ∙ newest-alone back n work marks
+
+    front-here : Front mask closed convention front day
+    front-here = rw here (g .front-known)
+
+    module _ (r : Turn) (turned : closedOk closed ≡ true → Front mask closed convention front day → Compared mask closed convention day (turnOf mask closed convention back pace seed exit day k) r) where
+      t : Compared mask closed convention day (turnOf mask closed convention back pace seed exit day k) r
+      t = turned (g .begun .calendar) front-here
+
+      opened : then (told r) (λ t. onTurn room t k (held back n work marks) (walk (turnOf mask closed convention back pace seed exit) room (876217 - suc k) (suc k))) ≡ o
+      unfolding walk
+      opened =
+          let a : 876217 - k ≡ suc (876217 - suc k) = omega arith in
+          let s = rw (a, ← here) at (g .same) in
+          rw (t .says) s
+
+      pub walk-stop : (m : ℕ) → r ≡ Stop m → Walking mask closed convention back room o (Refused m) work marks
+      unfolding told then walked Stands
+      walk-stop m e = record { says = rw e at opened; stands = tt }
+
+      pub walk-past : r ≡ Past → Walking mask closed convention back room o (Ready n k front) work marks
+      unfolding told then walked Stands onTurn
+      walk-past e = record { says = rw e at opened; stands = (g .begun .part, g .begun .some, g .front-known) }
+
+      pub walk-skip : (a : ℕ) → r ≡ Skip a → Going mask closed convention back pace seed exit room o work marks n (k + 1) a
+      unfolding told then onTurn Learnt
+      walk-skip a e =
+          let l : Learnt mask closed convention day r = t .learnt in
+          record {
+            begun = g .begun;
+            front-known = rw here at (rw e at l);
+            same = rw (add-one k) (rw e at opened);
+          }
+
+      module _ (d b : ℕ) (e : r ≡ Keep d b) (f : Filled) (work′ marks′ : List ℕ) (filled-so : Part room n work marks → Filling back room (put room d 1 (held back n work marks)) f work′ marks′) where
+        p : Filling back room (put room d 1 (held back n work marks)) f work′ marks′
+        p = filled-so (g .begun .part)
+
+        kept : then (filled back f work′ marks′) (walk (turnOf mask closed convention back pace seed exit) room (876217 - suc k) (suc k)) ≡ o
+        unfolding told then onTurn
+        kept = rw (p .says) (rw e at opened)
+
+        pub walk-full : (m : ℕ) → f ≡ filled-is.Refused m → Walking mask closed convention back room o (Refused m) work′ marks′
+        unfolding filled then walked Stands
+        walk-full m q = record { says = rw q at kept; stands = tt }
+
+        put-newest : (m : ℕ) → f ≡ filled-is.Ready m → newest (held back m work′ marks′) ≡ d
+        unfolding filled
+        put-newest m q = put-is-newest room d 1 (held back n work marks) (held back m work′ marks′) (rw q at (p .says))
+
+        pub walk-keep : (m : ℕ) → f ≡ filled-is.Ready m → Going mask closed convention back pace seed exit room o work′ marks′ m (k + 1) b
+        unfolding filled Placed then Learnt
+        walk-keep m q =
+            let l : Learnt mask closed convention day r = t .learnt in
+            let v : Placed room f work′ marks′ = p .part in
+            let u : Part room m work′ marks′ × (0 < m) = rw q at v in
+            record {
+              begun = record { calendar = g .begun .calendar; some = u .1; part = u .0 };
+              front-known = rw (put-newest m q) (rw e at l);
+              same = rw (add-one k) (rw q at kept);
+            }

@@ -1,0 +1,23 @@
+-- `working::candidates::front_of` meets its contract.
+-- Assumes nothing.
+use Rattle.date.specs.Date.{dated}
+use Rattle.working.proofs.Turns.{front-known}
+use borrow.Author.Needs.{needs}
+use Rattle.working.proofs.candidates.front_of.Statement.{statement}
+use Rattle.working.proofs.candidates.front_of.Tie as tie
+use Rattle.working.proofs.candidates.front_of.Reads as reads
+use Rattle.working.proofs.candidates.front_of.Lts as lts
+use Rattle.calendar.proofs.search.adjust.Reads as adjust-reads
+
+adjust-requires : tie.Need-adjust-requires
+adjust-requires c κs = search needs
+
+returns : tie.Need-returns
+returns c = λ ok f. c .adjust .ensures ok
+
+returns-2 : tie.Need-returns-2
+unfolding dated
+returns-2 c = λ ok f. front-known f (c .if1 .left)
+
+pub front-of-spec : {M : Type 1} → statement M
+front-of-spec = tie.close (tie.spec adjust-requires returns returns-2)

@@ -1,0 +1,6 @@
+pub mod Part
+pub mod Held
+pub mod Chains
+pub mod Paces
+pub mod Turning
+pub mod Adding

@@ -1,0 +1,90 @@
+// The two working lists, dates and marks: filled from the far end in backward builds, from the near end in others.
+ghost use mathlib.Core.Path.{_≡_};
+ghost use Prim.Native.Nat.{_<_};
+ghost use lib.ListN.{length};
+ghost use Rattle.refusal.specs.Answer.{then};
+ghost use Rattle.steps.specs.Generate.{nothing, put, newest};
+ghost use Rattle.steps.specs.Finish.{sameFlag};
+ghost use Rattle.working.specs.Part.{Part, held, hasPlace, placeOf, Filling};
+use crate::Filled;
+
+// Whether lists of these lengths have their 4,096 places, and one of them is left when n dates are there.
+fn has_place(n: usize, dates: usize, marks: usize) -> bool
+    ensures { λ r. ⌜ r ≡ hasPlace n dates marks ⌝ }
+{
+    if n < 4096 {
+        return dates == 4096 && marks == 4096;
+    }
+    false
+}
+
+// Where the next date goes when n are there.
+fn place_of(back: bool, n: usize) -> usize
+    requires { ⌜ n < 4096 ⌝ }
+    ensures { λ r. ⌜ (r ≡ placeOf back n) × (r < 4096) ⌝ }
+{
+    if back { 4095 - n } else { n }
+}
+
+// The date that was put last; 0 where there is none.
+pub fn newest(back: bool, n: usize, work: &[u32]) -> u32
+    ensures { λ r. ⌜ (length (now (work .entry)) ≡ 4096 → n < 4097 → r ≡ newest (held back n (now (work .entry)) (now (work .entry)))) ⌝ }
+{
+    if n == 0 {
+        return 0;
+    }
+    if has_place(n - 1, work.len(), work.len()) {
+        let at = place_of(back, n - 1);
+        return work[at];
+    }
+    0
+}
+
+// A date and its mark put behind the n that are there, or refusal 14.
+pub fn put(
+    back: bool,
+    n: usize,
+    room: usize,
+    day: u32,
+    mark: u8,
+    work: &mut [u32],
+    marks: &mut [u8],
+) -> Filled
+    ensures { λ r. ⌜ (Part room n (now (work .entry)) (now (marks .entry)) → Filling back room (put room day mark (held back n (now (work .entry)) (now (marks .entry)))) r (now (work .exit)) (now (marks .exit))) ⌝ }
+{
+    if room <= n {
+        return Filled::Refused(refusal::ROOM);
+    }
+    if has_place(n, work.len(), marks.len()) {
+        let at = place_of(back, n);
+        work[at] = day;
+        marks[at] = mark;
+        return Filled::Ready(n + 1);
+    }
+    Filled::Refused(refusal::ROOM)
+}
+
+// Two dates, the first of a list.
+pub fn put_two(
+    back: bool,
+    room: usize,
+    one: u32,
+    two: u32,
+    work: &mut [u32],
+    marks: &mut [u8],
+) -> Filled
+    ensures { λ r. ⌜ (Part room 0 (now (work .entry)) (now (marks .entry)) → Filling back room (then (put room one 1 nothing) (put room two 1)) r (now (work .exit)) (now (marks .exit))) ⌝ }
+{
+    let first = put(back, 0, room, one, 1, work, marks);
+    match first {
+        Filled::Refused(k) => Filled::Refused(k),
+        Filled::Ready(n) => put(back, n, room, two, 1, work, marks),
+    }
+}
+
+// The mark of a date: 1 if it equals the one that a whole tenor leads to.
+pub fn same_flag(a: u32, b: u32) -> u8
+    ensures { λ r. ⌜ r ≡ sameFlag a b ⌝ }
+{
+    if a == b { 1 } else { 0 }
+}

@@ -1,0 +1,82 @@
+// The loop over the candidates.
+ghost use mathlib.Core.Path.{_≡_};
+ghost use Rattle.steps.specs.Candidates.{turnOf};
+ghost use Rattle.steps.specs.Generate.{walk};
+ghost use Rattle.working.specs.Part.{Begun, held};
+ghost use Rattle.working.specs.Turning.{Walking};
+use crate::Filled;
+use crate::candidates;
+use crate::candidates::Turn;
+use crate::lists;
+use calendar::Convention;
+use steps::Pace;
+use steps::Seed;
+
+// What the loop leaves: how many dates, the tries, and the newest date's adjusted date where it is known, else 0.
+pub enum Walked {
+    Ready { n: usize, tries: u32, front: u32 },
+    Refused(u8),
+}
+
+// Candidates are put behind the `start` dates that are there, up to the first beyond the exit date. No
+// candidate from 876,217 on is a day of the span, so 2 is what the loop would meet there.
+pub fn walk(
+    back: bool,
+    pace: Pace,
+    seed: Seed,
+    exit: u32,
+    convention: Convention,
+    mask: u8,
+    closed: &[u32],
+    start: usize,
+    room: usize,
+    work: &mut [u32],
+    marks: &mut [u8],
+) -> Walked
+    ensures { λ r. ⌜ (Begun (now (closed .entry)) room start (now (work .entry)) (now (marks .entry)) → Walking mask (now (closed .entry)) convention back room (walk (turnOf mask (now (closed .entry)) convention back pace seed exit) room 876216 1 (held back start (now (work .entry)) (now (marks .entry)))) r (now (work .exit)) (now (marks .exit))) ⌝ }
+{
+    let mut n = start;
+    let mut k: u32 = 1;
+    let mut front: u32 = 0;
+    while k <= 876216 {
+        let newest = lists::newest(back, n, work);
+        let t = candidates::try_candidate(
+            back,
+            pace,
+            seed,
+            exit,
+            convention,
+            mask,
+            closed,
+            newest,
+            front,
+            k,
+        );
+        match t {
+            Turn::Stop(r) => {
+                return Walked::Refused(r);
+            }
+            Turn::Past => {
+                return Walked::Ready { n, tries: k, front };
+            }
+            Turn::Skip(a) => {
+                front = a;
+                k += 1;
+            }
+            Turn::Keep { day, front: b } => {
+                let put = lists::put(back, n, room, day, 1, work, marks);
+                match put {
+                    Filled::Refused(r) => {
+                        return Walked::Refused(r);
+                    }
+                    Filled::Ready(m) => {
+                        n = m;
+                        front = b;
+                        k += 1;
+                    }
+                }
+            }
+        }
+    }
+    Walked::Refused(refusal::BOOK)
+}
