@@ -1,0 +1,91 @@
+-- What the table of input checks comes to for a plain request.
+-- Assumes nothing.
+use Prim.Native.Nat.{ℕ}
+use mathlib.Core.Path.{_≡_, refl}
+use mathlib.Core.Bool.{Bool, true, false, false≢true, not, _&&_}
+use mathlib.Core.List.{List, [], _∷_}
+use lib.Dec.{eqb}
+use lib.IntN.{ℤ, pos, negsuc}
+use lib.Signed.{ltZ}
+use borrow.Author.Tests.{eq-eqb}
+use Rattle.period.specs.Signed.{isNegative}
+use Rattle.date.specs.Date.{inBook}
+use Rattle.steps.specs.declared.Request.{Request}
+use Rattle.steps.specs.Rules.{ruleInForce}
+use Rattle.steps.specs.Table.{Row, row, numberOr, firstRow, isGiven, anchorOk, datesOk, kindOf, outOfRange, notImm, wrongRule, monthendAllowed, inputRows}
+use Rattle.steps.specs.TableLaws as table
+use Rattle.plain.specs.Demand.{Plain, Passes, ChecksAre}
+use Rattle.plain.specs.Walked.{rule-is}
+
+both-true : (a b : Bool) → (a && b) ≡ true → (a ≡ true) × (b ≡ true)
+both-true true b e = (refl, e)
+both-true false b e = absurd (false≢true e)
+
+not-negative : (z : ℤ) → ltZ (pos 0) z ≡ true → isNegative z ≡ false
+not-negative (pos n) h = refl
+not-negative (negsuc n) h = absurd (false≢true h)
+
+-- a row that does not hold leaves it to the rows behind it
+next : (n : ℕ) (b : Bool) (rows : List Row) → b ≡ false → firstRow rows ≡ 0 → firstRow (row n b ∷ rows) ≡ 0
+unfolding firstRow numberOr
+next n b rows e h = rw e h
+
+no-rows : firstRow [] ≡ 0
+unfolding firstRow
+no-rows = refl
+
+module _ (q : Request) (closed : List ℕ) (dates flags : ℕ) (p : Plain q) where
+  passed : firstRow (inputRows q closed dates flags) ≡ 0 → Passes q closed dates flags
+  unfolding datesOk
+  passed h =
+      let a = table.accepted q closed dates flags h in
+      let e = both-true (inBook (q .effective .day)) _ (a .dates-hold) in
+      let t = both-true (inBook (q .termination .day)) _ (e .1) in
+      record {
+        even = a .even;
+        effective-in-book = e .0;
+        termination-in-book = t .0;
+        calendar-sound = a .calendar-holds;
+        tenor-short = a .tenor-holds;
+      }
+
+  even-row : dates ≡ flags → not (eqb dates flags) ≡ false
+  even-row h = rw (eq-eqb dates flags h)
+
+  dates-row : inBook (q .effective .day) ≡ true → inBook (q .termination .day) ≡ true → not (datesOk q) ≡ false
+  unfolding datesOk anchorOk
+  dates-row e t = rw (e, t, p .no-first, p .no-penultimate)
+
+  range-row : (anchor : ℕ) (outside : Bool) → anchor ≡ 0 → outOfRange (kindOf (ruleInForce q)) anchor outside ≡ false
+  unfolding kindOf outOfRange isGiven
+  range-row anchor outside e = rw (rule-is q p, e)
+
+  imm-row : (anchor : ℕ) → notImm (kindOf (ruleInForce q)) anchor ≡ false
+  unfolding kindOf notImm
+  imm-row anchor = rw (rule-is q p)
+
+  rule-row : (anchor : ℕ) → wrongRule (kindOf (ruleInForce q)) anchor ≡ false
+  unfolding kindOf wrongRule
+  rule-row anchor = rw (rule-is q p)
+
+  month-end-row : (q .monthend && not (monthendAllowed (ruleInForce q))) ≡ false
+  month-end-row = rw (p .no-month-end)
+
+  passes : Passes q closed dates flags → firstRow (inputRows q closed dates flags) ≡ 0
+  unfolding inputRows
+  passes c =
+      next _ _ _ (even-row (c .even))
+      (next _ _ _ (dates-row (c .effective-in-book) (c .termination-in-book))
+      (next _ _ _ (rw (c .calendar-sound))
+      (next _ _ _ (not-negative (q .tenor .length) (p .positive))
+      (next _ _ _ (rw (c .tenor-short))
+      (next _ _ _ (range-row (q .first .day) _ (p .no-first))
+      (next _ _ _ (imm-row (q .first .day))
+      (next _ _ _ (rule-row (q .first .day))
+      (next _ _ _ (range-row (q .penultimate .day) _ (p .no-penultimate))
+      (next _ _ _ (imm-row (q .penultimate .day))
+      (next _ _ _ (rule-row (q .penultimate .day))
+      (next _ _ _ month-end-row no-rows)))))))))))
+
+pub checks-are : ChecksAre
+checks-are q closed dates flags p = (passed q closed dates flags p, passes q closed dates flags p)
