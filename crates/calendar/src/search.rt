@@ -186,7 +186,7 @@ fn modified_preceding(day: u32, mask: u8, closed: &[u32]) -> Dated
     }
 }
 
-pub fn adjust(day: u32, convention: Convention, mask: u8, closed: &[u32]) -> Dated
+fn searched(day: u32, convention: Convention, mask: u8, closed: &[u32]) -> Dated
     ensures { λ r. ⌜ (closedOk (now (closed .entry)) ≡ true → dated r ≡ adjusted mask (now (closed .entry)) convention day) ⌝ }
 {
     match convention {
@@ -195,6 +195,21 @@ pub fn adjust(day: u32, convention: Convention, mask: u8, closed: &[u32]) -> Dat
         Convention::ModifiedFollowing => modified_following(day, mask, closed),
         Convention::Preceding => preceding(day, mask, closed),
         Convention::ModifiedPreceding => modified_preceding(day, mask, closed),
+    }
+}
+
+// An open day is its own adjusted date, so only a closed one is searched from.
+pub fn adjust(day: u32, convention: Convention, mask: u8, closed: &[u32]) -> Dated
+    ensures { λ r. ⌜ (closedOk (now (closed .entry)) ≡ true → dated r ≡ adjusted mask (now (closed .entry)) convention day) ⌝ }
+{
+    match convention {
+        Convention::Unadjusted => span::within(day as u64),
+        _ => {
+            if is_open(day, mask, closed) {
+                return span::within(day as u64);
+            }
+            searched(day, convention, mask, closed)
+        }
     }
 }
 

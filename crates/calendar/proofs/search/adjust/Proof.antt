@@ -1,11 +1,17 @@
 -- `calendar::search::adjust` meets its contract.
 -- Assumes nothing.
-use mathlib.Core.Path.{_∙_}
+use mathlib.Core.Path.{sym, _∙_}
 use Rattle.calendar.specs.Adjust.{adjusted, byConvention}
 use Rattle.calendar.specs.Search.{span-need}
+use Rattle.calendar.proofs.Stays.{open-stays}
 use borrow.Author.Needs.{needs}
 use Rattle.calendar.proofs.search.adjust.Statement.{statement}
 use Rattle.calendar.proofs.search.adjust.Tie as tie
+use Rattle.calendar.proofs.search.adjust.Reads as reads
+use Rattle.calendar.proofs.search.adjust.Lts as lts
+use Rattle.calendar.proofs.search.is_open.Reads as is-open-reads
+use Rattle.calendar.proofs.search.searched.Reads as searched-reads
+use Rattle.date.proofs.span.within.Reads as within-reads
 
 enum-told : tie.Need-enum-told
 enum-told c = search needs
@@ -13,45 +19,24 @@ enum-told c = search needs
 within-requires : tie.Need-within-requires
 within-requires c κs = search needs
 
-enum-told-2 : tie.Need-enum-told-2
-enum-told-2 c = search needs
+is-open-requires : tie.Need-is-open-requires
+is-open-requires c κs = search needs
 
-following-requires : tie.Need-following-requires
-following-requires c κs = search needs
-
-enum-told-3 : tie.Need-enum-told-3
-enum-told-3 c = search needs
-
-modified-following-requires : tie.Need-modified-following-requires
-modified-following-requires c κs = search needs
-
-enum-told-4 : tie.Need-enum-told-4
-enum-told-4 c = search needs
-
-preceding-requires : tie.Need-preceding-requires
-preceding-requires c κs = search needs
-
-enum-told-5 : tie.Need-enum-told-5
-enum-told-5 c = search needs
-
-modified-preceding-requires : tie.Need-modified-preceding-requires
-modified-preceding-requires c κs = search needs
+within-requires-2 : tie.Need-within-requires-2
+within-requires-2 c κs = search needs
 
 returns : tie.Need-returns
-unfolding adjusted byConvention
-returns c = λ ok. rw (c .before .enum-told .given .1) (c .within .ensures ∙ span-need _)
+returns c = λ ok. c .within2 .ensures ∙ sym (open-stays _ _ _ (sym (c .before .before .is-open .ensures ok) ∙ c .before .if1 .taken) _)
+
+searched-requires : tie.Need-searched-requires
+searched-requires c κs = search needs
 
 returns-2 : tie.Need-returns-2
-returns-2 c = λ ok. rw (c .before .enum-told2 .given .1) (c .following .ensures ok)
+unfolding adjusted byConvention
+returns-2 c = λ ok. rw (c .before .enum-told .given .1) (c .within .ensures ∙ span-need _)
 
 returns-3 : tie.Need-returns-3
-returns-3 c = λ ok. rw (c .before .enum-told3 .given .1) (c .modified-following .ensures ok)
-
-returns-4 : tie.Need-returns-4
-returns-4 c = λ ok. rw (c .before .enum-told4 .given .1) (c .preceding .ensures ok)
-
-returns-5 : tie.Need-returns-5
-returns-5 c = λ ok. rw (c .before .enum-told5 .given .1) (c .modified-preceding .ensures ok)
+returns-3 c = search needs
 
 pub adjust-spec : {M : Type 1} → statement M
 adjust-spec =
@@ -59,16 +44,9 @@ adjust-spec =
     (tie.spec
     enum-told
     within-requires
-    enum-told-2
-    following-requires
-    enum-told-3
-    modified-following-requires
-    enum-told-4
-    preceding-requires
-    enum-told-5
-    modified-preceding-requires
+    is-open-requires
+    within-requires-2
     returns
+    searched-requires
     returns-2
-    returns-3
-    returns-4
-    returns-5)
+    returns-3)

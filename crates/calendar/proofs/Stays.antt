@@ -1,0 +1,41 @@
+-- An open day is its own adjusted date, whatever the convention.
+-- Assumes nothing.
+use Prim.Native.Nat.{ℕ}
+use mathlib.Core.Path.{_≡_, refl, sym, _∙_}
+use mathlib.Core.Bool.{Bool, true, false}
+use mathlib.Core.List.{List}
+use borrow.Author.Tests.{eq-eqb}
+use Rattle.refusal.specs.Answer.{Answer, given, refused, need, then, BOOK}
+use Rattle.date.specs.Date.{withinSpan, monthIndex}
+use Rattle.calendar.specs.declared.Convention.{Convention}
+use Rattle.calendar.specs.declared.Convention.the-variants.{Unadjusted, Following, ModifiedFollowing, Preceding, ModifiedPreceding}
+use Rattle.calendar.specs.Open.{isOpen}
+use Rattle.calendar.specs.Adjust.{inSpan, found, sameMonth, unlessLeft, modified, byConvention, adjusted}
+use Rattle.calendar.specs.Search.{turn-open, span-need, span-given}
+
+module _ (mask : ℕ) (closed : List ℕ) (day : ℕ) (open-day : isOpen mask closed day ≡ true) where
+  module _ (s : inSpan day ≡ true) where
+    found-there : (back : Bool) → found mask closed back day ≡ given day
+    unfolding found then
+    found-there back = rw (turn-open mask closed back 30 day open-day) (span-given day s)
+
+    stays-modified : (back : Bool) → modified mask closed back day ≡ given day
+    unfolding modified then sameMonth unlessLeft
+    stays-modified back = rw (found-there back, eq-eqb (monthIndex day) (monthIndex day) refl)
+
+    stays : (convention : Convention) → byConvention mask closed convention day ≡ given day
+    unfolding byConvention
+    stays Unadjusted = refl
+    stays Following = found-there false
+    stays ModifiedFollowing = stays-modified false
+    stays Preceding = found-there true
+    stays ModifiedPreceding = stays-modified true
+
+  by-span : (b : Bool) → inSpan day ≡ b → (convention : Convention) → need BOOK b (byConvention mask closed convention day) ≡ need BOOK b (given day)
+  unfolding need
+  by-span true s convention = stays s convention
+  by-span false s convention = refl
+
+  pub open-stays : (convention : Convention) → adjusted mask closed convention day ≡ withinSpan day
+  unfolding adjusted
+  open-stays convention = by-span (inSpan day) refl convention ∙ sym (span-need day)
