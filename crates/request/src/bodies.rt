@@ -1,0 +1,97 @@
+// What a field's body may be, and what its letters and bytes stand for.
+ghost use mathlib.Core.Path.{_≡_};
+ghost use lib.ListN.{length};
+ghost use Rattle.request.specs.Format.{isLetter, isTenor, isBelow, areDates, bodyOk, unitOf, ruleOf, conventionOf};
+use calendar::Convention;
+use period::Unit;
+use steps::Rule;
+
+fn is_letter(b: u8) -> bool
+    ensures { λ r. ⌜ r ≡ isLetter b ⌝ }
+{
+    match b {
+        b'D' => true,
+        b'W' => true,
+        b'M' => true,
+        b'Y' => true,
+        _ => false,
+    }
+}
+
+fn is_tenor(body: &[u8]) -> bool
+    ensures { λ r. ⌜ r ≡ isTenor (now (body .entry)) ⌝ }
+{
+    if body.len() == 3 {
+        return is_letter(body[0]);
+    }
+    false
+}
+
+fn is_below(limit: u8, body: &[u8]) -> bool
+    ensures { λ r. ⌜ r ≡ isBelow limit (now (body .entry)) ⌝ }
+{
+    if body.len() == 1 {
+        return body[0] < limit;
+    }
+    false
+}
+
+// Whether the tag has a field, and the body is one that it may have.
+pub(crate) fn body_ok(tag: u8, body: &[u8]) -> bool
+    ensures { λ r. ⌜ r ≡ bodyOk tag (now (body .entry)) ⌝ }
+{
+    match tag {
+        1 => body.len() == 4,
+        2 => body.len() == 4,
+        3 => is_tenor(body),
+        4 => is_below(10, body),
+        5 => is_below(5, body),
+        6 => is_below(5, body),
+        7 => is_below(2, body),
+        8 => body.len() == 4,
+        9 => body.len() == 4,
+        10 => is_below(128, body),
+        11 => body.len() <= 16384 && body.len() % 4 == 0,
+        _ => false,
+    }
+}
+
+pub(crate) fn unit_of(b: u8) -> Unit
+    ensures { λ r. ⌜ r ≡ unitOf b ⌝ }
+{
+    match b {
+        b'D' => Unit::Days,
+        b'W' => Unit::Weeks,
+        b'M' => Unit::Months,
+        _ => Unit::Years,
+    }
+}
+
+pub(crate) fn rule_of(b: u8) -> Rule
+    ensures { λ r. ⌜ r ≡ ruleOf b ⌝ }
+{
+    match b {
+        0 => Rule::Zero,
+        1 => Rule::Backward,
+        2 => Rule::Forward,
+        3 => Rule::Twentieth,
+        4 => Rule::TwentiethIMM,
+        5 => Rule::ThirdWednesday,
+        6 => Rule::ThirdWednesdayInclusive,
+        7 => Rule::OldCDS,
+        8 => Rule::CDS,
+        _ => Rule::CDS2015,
+    }
+}
+
+pub(crate) fn convention_of(b: u8) -> Convention
+    ensures { λ r. ⌜ r ≡ conventionOf b ⌝ }
+{
+    match b {
+        0 => Convention::Unadjusted,
+        1 => Convention::Following,
+        2 => Convention::ModifiedFollowing,
+        3 => Convention::Preceding,
+        _ => Convention::ModifiedPreceding,
+    }
+}
