@@ -1,0 +1,5 @@
+pub mod Putting
+pub mod Digits
+pub mod Ways
+pub mod Laying
+pub mod Whole

@@ -1,0 +1,83 @@
+-- `printing::schedule` meets its contract.
+-- Assumes nothing.
+use Rattle.printing.proofs.Whole.{schedule-none, schedule-put, header-room, lines-room}
+use borrow.Author.Needs.{needs}
+use Rattle.printing.proofs.schedule.Statement.{statement}
+use Rattle.printing.proofs.schedule.Tie as tie
+
+slice-aggregate-spell : tie.Need-slice-aggregate-spell
+slice-aggregate-spell c = search needs
+
+spell-requires : tie.Need-spell-requires
+spell-requires c κs = search needs
+
+slice-aggregate-spell-2 : tie.Need-slice-aggregate-spell-2
+slice-aggregate-spell-2 c = search needs
+
+spell-requires-2 : tie.Need-spell-requires-2
+spell-requires-2 c κs = search needs
+
+sub-has-room : tie.Need-sub-has-room
+sub-has-room c = search needs
+
+sub-has-room-2 : tie.Need-sub-has-room-2
+sub-has-room-2 c = search needs
+
+has-room-requires : tie.Need-has-room-requires
+has-room-requires c κs = search needs
+
+sub-put-header : tie.Need-sub-put-header
+sub-put-header c = search needs
+
+part-put-header-start : tie.Need-part-put-header-start
+part-put-header-start c = search needs
+
+part-put-header-end : tie.Need-part-put-header-end
+part-put-header-end c = search needs
+
+sub-put-header-2 : tie.Need-sub-put-header-2
+sub-put-header-2 c = search needs
+
+part-put-header-start-2 : tie.Need-part-put-header-start-2
+part-put-header-start-2 c = search needs
+
+part-put-header-end-2 : tie.Need-part-put-header-end-2
+part-put-header-end-2 c = search needs
+
+put-header-requires : tie.Need-put-header-requires
+put-header-requires c κs = header-room (c .before .before .before .before .before .before .before .before .before .before .before .before .before .before .before .before .args .dates .now) (c .before .before .before .before .before .before .before .before .before .before .before .before .before .before .before .before .args .flags .now) (c .before .before .before .before .before .before .before .before .before .before .before .spell .ensures) (c .before .before .before .before .before .before .before .before .spell2 .ensures) _ (c .before .before .before .before .before .before .before .before .before .before .before .before .before .before .before .before .args .out .now) (c .before .before .before .before .before .before .has-room .ensures) (c .before .before .before .before .before .if1 .taken)
+
+put-lines-requires : tie.Need-put-lines-requires
+put-lines-requires c κs = lines-room (c .before .before .before .before .before .before .before .before .before .before .before .before .before .before .before .before .before .before .before .before .args .dates .now) (c .before .before .before .before .before .before .before .before .before .before .before .before .before .before .before .before .before .before .before .before .args .flags .now) (c .before .before .before .before .before .before .before .before .before .before .before .before .before .before .before .spell .ensures) (c .before .before .before .before .before .before .before .before .before .before .before .before .spell2 .ensures) _ (c .before .before .before .before .before .before .before .before .before .before .has-room .ensures) (c .before .before .before .before .before .before .before .before .before .if1 .taken) (c .before .before .before .put-header .ensures)
+
+same-length : tie.Need-same-length
+same-length c = search needs
+
+returns : tie.Need-returns
+returns c = schedule-put _ _ (c .before .before .before .before .before .before .before .before .before .before .before .before .before .before .before .before .before .before .spell .ensures) (c .before .before .before .before .before .before .before .before .before .before .before .before .before .before .before .spell2 .ensures) _ (c .before .before .before .before .before .before .before .before .before .before .before .before .before .has-room .ensures) (c .before .before .before .before .before .before .before .before .before .before .before .before .if1 .taken) (c .before .before .before .before .before .before .put-header .ensures) (c .before .before .put-lines .ensures)
+
+returns-2 : tie.Need-returns-2
+returns-2 c = schedule-none _ _ (c .before .before .before .before .before .before .spell .ensures) (c .before .before .before .spell2 .ensures) _ _ (c .before .has-room .ensures) (c .if1 .left)
+
+pub schedule-spec : {M : Type 1} → statement M
+schedule-spec =
+    tie.close
+    (tie.spec
+    slice-aggregate-spell
+    spell-requires
+    slice-aggregate-spell-2
+    spell-requires-2
+    sub-has-room
+    sub-has-room-2
+    has-room-requires
+    sub-put-header
+    part-put-header-start
+    part-put-header-end
+    sub-put-header-2
+    part-put-header-start-2
+    part-put-header-end-2
+    put-header-requires
+    put-lines-requires
+    same-length
+    returns
+    returns-2)
