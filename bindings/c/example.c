@@ -1,0 +1,45 @@
+/* Builds a quarterly schedule and prints it, then shows two refusals: by name, and of a missing date. */
+#include <inttypes.h>
+#include <stdio.h>
+
+#include "heronspan.h"
+
+static void print_day(uint32_t day) {
+    int64_t fields = heronspan_fields(day);
+    printf("%04d-%02d-%02d", (int)(fields / 10000), (int)(fields / 100 % 100), (int)(fields % 100));
+}
+
+static void print_refusal(const char *what, int64_t answer) {
+    printf("%s: refused %" PRId64 " %s\n", what, -answer, heronspan_refusal_name(answer));
+}
+
+int main(void) {
+    uint32_t dates[16], answer[HERONSPAN_RECORD];
+    uint8_t flags[16];
+    uint32_t effective = (uint32_t)heronspan_make(2025, 1, 15);
+    uint32_t termination = (uint32_t)heronspan_make(2025, 12, 20);
+
+    /* Every three months back from the end, weekends closed, moved to the following open day. */
+    int64_t count = heronspan_build(effective, termination, 3, HERONSPAN_MONTHS, HERONSPAN_BACKWARD, HERONSPAN_FOLLOWING,
+                                    HERONSPAN_FOLLOWING, 0, 0, 0, HERONSPAN_WEEKENDS, NULL, 0, dates, 16, flags, 16,
+                                    answer, HERONSPAN_RECORD);
+    if (count < 0) {
+        print_refusal("build", count);
+        return 1;
+    }
+    printf("%" PRId64 " dates, %" PRIu32 " tries\n", count, answer[HERONSPAN_TRIES]);
+    for (int64_t i = 0; i < count; i++) {
+        print_day(dates[i]);
+        printf("%s\n", i == 0 ? "" : flags[i - 1] ? " R" : " S");
+    }
+
+    /* The same with room for four dates. */
+    count = heronspan_build(effective, termination, 3, HERONSPAN_MONTHS, HERONSPAN_BACKWARD, HERONSPAN_FOLLOWING,
+                            HERONSPAN_FOLLOWING, 0, 0, 0, HERONSPAN_WEEKENDS, NULL, 0, dates, 4, flags, 4, answer,
+                            HERONSPAN_RECORD);
+    print_refusal("four places", count);
+
+    /* 0 is no date: it is neither before nor after the real ones. */
+    print_refusal("a missing date", heronspan_compare(0, effective));
+    return 0;
+}

@@ -1,0 +1,170 @@
+"""Sums by hand of document 01, and what is refused."""
+
+import unittest
+from datetime import date
+
+import heronspan as h
+from heronspan import Convention, Order, Rule, Unit
+
+
+def days(*texts: str) -> list[date]:
+    return [date.fromisoformat(text) for text in texts]
+
+
+class Refusals(unittest.TestCase):
+    def refused(self, name: str, call, *arguments, **named) -> None:
+        with self.assertRaises(h.Refused) as caught:
+            call(*arguments, **named)
+        self.assertEqual(caught.exception.name, name)
+        self.assertEqual(caught.exception.number, h.Refusal[name])
+
+
+class Dates(Refusals):
+    def test_make(self) -> None:
+        self.assertEqual(h.make(2024, 2, 29), date(2024, 2, 29))
+        self.refused("BOOK", h.make, 2025, 2, 29)
+        self.refused("BOOK", h.make, 2**32 + 2024, 1, 1)
+
+    def test_weekday_is_that_of_iso_8601(self) -> None:
+        self.assertEqual(h.weekday(date(2025, 3, 19)), 3)
+        self.assertEqual(h.weekday(date(2025, 3, 23)), 7)
+
+    def test_months_keep_the_day_or_take_the_last(self) -> None:
+        self.assertEqual(h.advance(date(2025, 1, 31), 1, Unit.MONTHS), date(2025, 2, 28))
+        self.assertEqual(h.advance(date(2025, 3, 31), -1, Unit.YEARS), date(2024, 3, 31))
+        self.assertEqual(h.month_end(date(2024, 2, 3)), date(2024, 2, 29))
+
+    def test_weekdays(self) -> None:
+        self.assertEqual(h.next_weekday(date(2025, 3, 20), 3), date(2025, 3, 26))
+        self.assertEqual(h.nth_weekday(3, 3, 3, 2025), date(2025, 3, 19))
+        self.refused("BOOK", h.nth_weekday, 5, 3, 2, 2025)
+
+    def test_two_dates(self) -> None:
+        self.assertEqual(h.difference(date(2025, 1, 1), date(2025, 3, 1)), -59)
+        self.assertEqual(h.compare(date(2025, 1, 1), date(2025, 3, 1)), Order.BEFORE)
+        self.assertEqual(h.compare(date(2025, 3, 1), date(2025, 3, 1)), Order.SAME)
+        self.assertEqual(h.compare(date(2025, 3, 2), date(2025, 3, 1)), Order.AFTER)
+
+    def test_a_missing_date_is_refused(self) -> None:
+        given = date(2025, 3, 1)
+        for call in (
+            lambda: h.compare(None, given),
+            lambda: h.compare(given, None),
+            lambda: h.difference(None, given),
+            lambda: h.weekday(None),
+            lambda: h.month_end(None),
+            lambda: h.advance(None, 1, Unit.DAYS),
+            lambda: h.next_imm_date(None),
+            lambda: h.build(None, given),
+            lambda: h.build(given, None),
+        ):
+            self.refused("BOOK", call)
+
+    def test_a_date_outside_the_book_is_refused(self) -> None:
+        self.refused("BOOK", h.weekday, date(1900, 12, 31))
+        self.refused("BOOK", h.weekday, date(2200, 1, 1))
+
+    def test_times(self) -> None:
+        self.assertEqual(h.times(-3, Unit.MONTHS, 4), -12)
+        self.refused("TENOR", h.times, 2**31 - 1, Unit.DAYS, 2)
+
+    def test_a_number_outside_its_list_is_refused(self) -> None:
+        self.refused("REQUEST", h.advance, date(2025, 1, 1), 1, 4)
+        self.refused("REQUEST", h.next_twentieth, date(2025, 1, 1), 10)
+        self.refused("REQUEST", h.next_twentieth, date(2025, 1, 1), 256)
+
+
+class Calendars(Refusals):
+    def test_conventions(self) -> None:
+        calendar = h.Calendar(h.WEEKENDS)
+        self.assertEqual(calendar.adjust(date(2025, 5, 31), Convention.FOLLOWING), date(2025, 6, 2))
+        self.assertEqual(calendar.adjust(date(2025, 5, 31), Convention.MODIFIED_FOLLOWING), date(2025, 5, 30))
+        self.assertEqual(calendar.month_end(date(2025, 5, 1)), date(2025, 5, 30))
+        self.assertTrue(calendar.is_month_end(date(2025, 5, 30)))
+        self.assertFalse(calendar.is_month_end(None))
+
+    def test_closed_dates(self) -> None:
+        calendar = h.Calendar(h.WEEKENDS, days("2025-04-18", "2025-04-21"))
+        self.assertFalse(calendar.is_open(date(2025, 4, 18)))
+        self.assertEqual(calendar.advance(date(2025, 4, 17), 1, Unit.DAYS), date(2025, 4, 22))
+        self.refused("TENOR", calendar.advance, date(2025, 4, 17), 367, Unit.DAYS)
+
+    def test_a_calendar_that_breaks_its_rule_is_refused(self) -> None:
+        self.refused("CALENDAR", h.Calendar, 127)
+        self.refused("CALENDAR", h.Calendar, 0, days("2025-04-21", "2025-04-18"))
+
+
+class Imm(Refusals):
+    def test_dates(self) -> None:
+        self.assertTrue(h.is_imm_date(date(2025, 3, 19)))
+        self.assertFalse(h.is_imm_date(date(2025, 4, 16)))
+        self.assertTrue(h.is_imm_date(date(2025, 4, 16), main=False))
+        self.assertEqual(h.next_imm_date(date(2025, 3, 18), main=False), date(2025, 3, 19))
+        self.assertEqual(h.next_imm_date(date(2025, 3, 19), main=False), date(2025, 4, 16))
+        self.assertEqual(h.next_imm_date(date(2025, 3, 19)), date(2025, 6, 18))
+
+    def test_codes(self) -> None:
+        self.assertEqual(h.imm_code(date(2025, 12, 17)), "Z5")
+        self.assertEqual(h.imm_date("H5", date(2025, 3, 19)), date(2025, 3, 19))
+        self.assertEqual(h.imm_date("h5", date(2025, 3, 20)), date(2035, 3, 21))
+        self.assertEqual(h.next_imm_date(date(2025, 1, 1), code="F5"), date(2025, 3, 19))
+        self.assertEqual(h.next_imm_code(date(2025, 3, 19)), "M5")
+        self.assertEqual(h.next_imm_code(date(2025, 1, 1), code="F5"), "H5")
+        self.assertFalse(h.is_imm_code("H55"))
+        self.refused("CODE", h.imm_code, date(2025, 3, 20))
+        self.refused("CODE", h.imm_date, "A5", date(2025, 3, 19))
+
+
+class Schedules(Refusals):
+    def test_backward(self) -> None:
+        built = h.build(date(2025, 1, 15), date(2025, 12, 20), 3, Unit.MONTHS)
+        self.assertEqual(built.dates, days("2025-01-15", "2025-03-20", "2025-06-20", "2025-09-20", "2025-12-20"))
+        self.assertEqual(built.regular, [False, True, True, True])
+        self.assertEqual((built.tries, built.rule, built.tenor, built.unit), (4, Rule.BACKWARD, 3, Unit.MONTHS))
+
+    def test_room(self) -> None:
+        asked = (date(2025, 1, 15), date(2025, 12, 20), 3, Unit.MONTHS)
+        self.assertEqual(len(h.build(*asked, room=5).dates), 5)
+        self.refused("ROOM", h.build, *asked, room=4)
+        self.refused("ROOM", h.build, *asked, room=0)
+
+    def test_cds(self) -> None:
+        built = h.build(date(2025, 4, 25), date(2025, 12, 20), 3, Unit.MONTHS, Rule.CDS)
+        self.assertEqual(built.dates, days("2025-02-20", "2025-06-20", "2025-09-20", "2025-12-20"))
+
+    def test_conventions_of_the_dates_and_of_the_last(self) -> None:
+        asked = (date(2025, 1, 15), date(2025, 12, 20), 3, Unit.MONTHS)
+        weekends = h.Calendar(h.WEEKENDS)
+        built = h.build(*asked, convention=Convention.FOLLOWING, terminal=Convention.UNADJUSTED, calendar=weekends)
+        self.assertEqual(built.dates[-2:], days("2025-09-22", "2025-12-20"))
+        built = h.build(*asked, convention=Convention.UNADJUSTED, terminal=Convention.FOLLOWING, calendar=weekends)
+        self.assertEqual(built.dates[-2:], days("2025-09-20", "2025-12-22"))
+
+    def test_anchors(self) -> None:
+        built = h.build(date(2025, 1, 15), date(2025, 7, 15), 3, Unit.MONTHS, first=date(2025, 2, 15))
+        self.assertEqual(built.dates[:2], days("2025-01-15", "2025-02-15"))
+        self.refused("FIRST_DATE", h.build, date(2025, 1, 15), date(2025, 7, 15), 3, Unit.MONTHS, first=date(2025, 1, 15))
+
+    def test_request_bytes(self) -> None:
+        request = bytes.fromhex("01 0004 000B436C 02 0004 000B4403 03 0003 4D0001 FF 0000")
+        built = h.build_bytes(request)
+        self.assertEqual(built.dates, [date(2022, month, 1) for month in range(1, 7)])
+        self.assertEqual((built.regular, built.tries), ([True] * 5, 6))
+        self.refused("REQUEST", h.build_bytes, request[:-1])
+        self.refused("REQUEST", h.build_bytes, b"")
+        self.refused("ROOM", h.build_bytes, request, room=5)
+
+    def test_refusals(self) -> None:
+        asked = (date(2025, 6, 25), date(2025, 3, 1), 3, Unit.MONTHS)
+        self.refused("COLLAPSED", h.build, *asked, rule=Rule.TWENTIETH)
+        self.refused("NEGATIVE", h.build, date(2025, 1, 1), date(2025, 3, 1), -1, Unit.MONTHS)
+        self.refused("REQUEST", h.build, date(2025, 1, 1), date(2025, 3, 1), 1, Unit.MONTHS, rule=10)
+
+    def test_twentieths(self) -> None:
+        self.assertEqual(h.next_twentieth(date(2025, 4, 25), Rule.CDS), date(2025, 6, 20))
+        self.assertEqual(h.next_twentieth(date(2025, 4, 25), Rule.TWENTIETH), date(2025, 5, 20))
+        self.assertEqual(h.previous_twentieth(date(2025, 4, 25), Rule.TWENTIETH), date(2025, 4, 20))
+
+
+if __name__ == "__main__":
+    unittest.main()

@@ -1,0 +1,69 @@
+//! The functions of include/heronspan.h.
+extern "C" {
+    pub fn heronspan_make(year: u32, month: u32, day: u32) -> i64;
+    pub fn heronspan_fields(day: u32) -> i64;
+    pub fn heronspan_weekday(day: u32) -> i64;
+    pub fn heronspan_month_end(day: u32) -> i64;
+    pub fn heronspan_advance(day: u32, count: i32, unit: u8) -> i64;
+    pub fn heronspan_next_weekday(day: u32, weekday: u32) -> i64;
+    pub fn heronspan_nth_weekday(nth: u32, weekday: u32, month: u32, year: u32) -> i64;
+    pub fn heronspan_compare(a: u32, b: u32) -> i64;
+    pub fn heronspan_difference(a: u32, b: u32, days: *mut i32, days_len: usize) -> i64;
+    pub fn heronspan_times(tenor: i32, unit: u8, count: i32, out: *mut i32, out_len: usize) -> i64;
+    pub fn heronspan_calendar_check(mask: u8, closed: *const u32, closed_len: usize) -> i64;
+    pub fn heronspan_is_open(day: u32, mask: u8, closed: *const u32, closed_len: usize) -> i64;
+    pub fn heronspan_adjust(day: u32, convention: u8, mask: u8, closed: *const u32, closed_len: usize) -> i64;
+    pub fn heronspan_calendar_month_end(day: u32, mask: u8, closed: *const u32, closed_len: usize) -> i64;
+    pub fn heronspan_is_month_end(day: u32, mask: u8, closed: *const u32, closed_len: usize) -> i64;
+    pub fn heronspan_calendar_advance(
+        day: u32,
+        tenor: i32,
+        unit: u8,
+        convention: u8,
+        monthend: u8,
+        mask: u8,
+        closed: *const u32,
+        closed_len: usize,
+    ) -> i64;
+    pub fn heronspan_is_imm_date(day: u32, main: u8) -> i64;
+    pub fn heronspan_is_imm_code(code: *const u8, code_len: usize, main: u8) -> i64;
+    pub fn heronspan_imm_code(day: u32) -> i64;
+    pub fn heronspan_imm_date(code: *const u8, code_len: usize, day: u32) -> i64;
+    pub fn heronspan_next_imm_date(day: u32, main: u8) -> i64;
+    pub fn heronspan_next_imm_date_with_code(code: *const u8, code_len: usize, main: u8, day: u32) -> i64;
+    pub fn heronspan_next_imm_code(day: u32, main: u8) -> i64;
+    pub fn heronspan_next_imm_code_with_code(code: *const u8, code_len: usize, main: u8, day: u32) -> i64;
+    pub fn heronspan_next_twentieth(day: u32, rule: u8) -> i64;
+    pub fn heronspan_previous_twentieth(day: u32, rule: u8) -> i64;
+    pub fn heronspan_build(
+        effective: u32,
+        termination: u32,
+        tenor: i32,
+        unit: u8,
+        rule: u8,
+        convention: u8,
+        terminal: u8,
+        monthend: u8,
+        first: u32,
+        penultimate: u32,
+        mask: u8,
+        closed: *const u32,
+        closed_len: usize,
+        dates: *mut u32,
+        dates_len: usize,
+        flags: *mut u8,
+        flags_len: usize,
+        answer: *mut u32,
+        answer_len: usize,
+    ) -> i64;
+    pub fn heronspan_build_bytes(
+        bytes: *const u8,
+        bytes_len: usize,
+        dates: *mut u32,
+        dates_len: usize,
+        flags: *mut u8,
+        flags_len: usize,
+        answer: *mut u32,
+        answer_len: usize,
+    ) -> i64;
+}

@@ -1,0 +1,473 @@
+//! Dates, calendars, IMM codes and payment schedules, over the proved library.
+//!
+//! No call panics on bad input: each answers a value or a [`Refusal`]. [`Date::NONE`] is no date; as an anchor it is no
+//! anchor, and where a date is due it is refused with [`Refusal::Book`].
+
+mod ffi;
+
+use std::cmp::Ordering;
+use std::fmt;
+
+/// Why a call was refused, by the numbers of document 01's table.
+#[derive(Clone, Copy, Debug, PartialEq, Eq, Hash)]
+#[repr(u8)]
+pub enum Refusal {
+    Uneven = 1,
+    Book = 2,
+    Calendar = 3,
+    Negative = 4,
+    Tenor = 5,
+    FirstDate = 6,
+    FirstNotImm = 7,
+    FirstWrongRule = 8,
+    LastDate = 9,
+    LastNotImm = 10,
+    LastWrongRule = 11,
+    Monthend = 12,
+    Closed = 13,
+    Room = 14,
+    Collapsed = 15,
+    Code = 16,
+    Request = 17,
+}
+
+const REFUSALS: [(Refusal, &str); 17] = [
+    (Refusal::Uneven, "UNEVEN"),
+    (Refusal::Book, "BOOK"),
+    (Refusal::Calendar, "CALENDAR"),
+    (Refusal::Negative, "NEGATIVE"),
+    (Refusal::Tenor, "TENOR"),
+    (Refusal::FirstDate, "FIRST_DATE"),
+    (Refusal::FirstNotImm, "FIRST_NOT_IMM"),
+    (Refusal::FirstWrongRule, "FIRST_WRONG_RULE"),
+    (Refusal::LastDate, "LAST_DATE"),
+    (Refusal::LastNotImm, "LAST_NOT_IMM"),
+    (Refusal::LastWrongRule, "LAST_WRONG_RULE"),
+    (Refusal::Monthend, "MONTHEND"),
+    (Refusal::Closed, "CLOSED"),
+    (Refusal::Room, "ROOM"),
+    (Refusal::Collapsed, "COLLAPSED"),
+    (Refusal::Code, "CODE"),
+    (Refusal::Request, "REQUEST"),
+];
+
+impl Refusal {
+    pub fn number(self) -> u8 {
+        self as u8
+    }
+
+    pub fn name(self) -> &'static str {
+        REFUSALS[self as usize - 1].1
+    }
+}
+
+impl fmt::Display for Refusal {
+    fn fmt(&self, f: &mut fmt::Formatter) -> fmt::Result {
+        write!(f, "refused {} {}", self.number(), self.name())
+    }
+}
+
+impl std::error::Error for Refusal {}
+
+pub type Answer<T> = Result<T, Refusal>;
+
+/// What an answer in one number says.
+fn told(answer: i64) -> Answer<i64> {
+    if answer < 0 {
+        return Err(REFUSALS[(-answer - 1) as usize].0);
+    }
+    Ok(answer)
+}
+
+fn day(answer: i64) -> Answer<Date> {
+    told(answer).map(|n| Date(n as u32))
+}
+
+fn truth(answer: i64) -> Answer<bool> {
+    told(answer).map(|n| n == 1)
+}
+
+fn code(answer: i64) -> Answer<[u8; 2]> {
+    told(answer).map(|n| [(n / 256) as u8, (n % 256) as u8])
+}
+
+#[derive(Clone, Copy, Debug, PartialEq, Eq, Hash)]
+#[repr(u8)]
+pub enum Unit {
+    Days,
+    Weeks,
+    Months,
+    Years,
+}
+
+const UNITS: [Unit; 4] = [Unit::Days, Unit::Weeks, Unit::Months, Unit::Years];
+
+#[derive(Clone, Copy, Debug, PartialEq, Eq, Hash)]
+#[repr(u8)]
+pub enum Rule {
+    Zero,
+    Backward,
+    Forward,
+    Twentieth,
+    TwentiethImm,
+    ThirdWednesday,
+    ThirdWednesdayInclusive,
+    OldCds,
+    Cds,
+    Cds2015,
+}
+
+const RULES: [Rule; 10] = [
+    Rule::Zero,
+    Rule::Backward,
+    Rule::Forward,
+    Rule::Twentieth,
+    Rule::TwentiethImm,
+    Rule::ThirdWednesday,
+    Rule::ThirdWednesdayInclusive,
+    Rule::OldCds,
+    Rule::Cds,
+    Rule::Cds2015,
+];
+
+#[derive(Clone, Copy, Debug, PartialEq, Eq, Hash)]
+#[repr(u8)]
+pub enum Convention {
+    Unadjusted,
+    Following,
+    ModifiedFollowing,
+    Preceding,
+    ModifiedPreceding,
+}
+
+/// A day number: 1 is 1 January of year 1. It is not ordered by itself, since [`Date::NONE`] has no place in the order:
+/// [`Date::compare`] is.
+#[derive(Clone, Copy, Debug, PartialEq, Eq, Hash)]
+pub struct Date(pub u32);
+
+impl Date {
+    /// No date.
+    pub const NONE: Date = Date(0);
+
+    pub fn make(year: u32, month: u32, day_of_month: u32) -> Answer<Date> {
+        day(unsafe { ffi::heronspan_make(year, month, day_of_month) })
+    }
+
+    /// Year, month and day.
+    pub fn fields(self) -> Answer<(u32, u32, u32)> {
+        let n = told(unsafe { ffi::heronspan_fields(self.0) })? as u32;
+        Ok((n / 10000, n / 100 % 100, n % 100))
+    }
+
+    /// 1 is Monday and 7 Sunday.
+    pub fn weekday(self) -> Answer<u32> {
+        told(unsafe { ffi::heronspan_weekday(self.0) }).map(|n| n as u32)
+    }
+
+    pub fn month_end(self) -> Answer<Date> {
+        day(unsafe { ffi::heronspan_month_end(self.0) })
+    }
+
+    /// The date moved by a count of units, on no calendar.
+    pub fn advance(self, count: i32, unit: Unit) -> Answer<Date> {
+        day(unsafe { ffi::heronspan_advance(self.0, count, unit as u8) })
+    }
+
+    /// The first date with that weekday on or after the date.
+    pub fn next_weekday(self, weekday: u32) -> Answer<Date> {
+        day(unsafe { ffi::heronspan_next_weekday(self.0, weekday) })
+    }
+
+    /// The nth date with that weekday in a month.
+    pub fn nth_weekday(nth: u32, weekday: u32, month: u32, year: u32) -> Answer<Date> {
+        day(unsafe { ffi::heronspan_nth_weekday(nth, weekday, month, year) })
+    }
+
+    /// Where the date lies beside the other one.
+    pub fn compare(self, other: Date) -> Answer<Ordering> {
+        told(unsafe { ffi::heronspan_compare(self.0, other.0) }).map(|n| n.cmp(&1))
+    }
+
+    /// How many days the date lies after the other one.
+    pub fn difference(self, other: Date) -> Answer<i32> {
+        let mut days = [0];
+        told(unsafe { ffi::heronspan_difference(self.0, other.0, days.as_mut_ptr(), 1) })?;
+        Ok(days[0])
+    }
+
+    /// The first twentieth on or after the date.
+    pub fn next_twentieth(self, rule: Rule) -> Answer<Date> {
+        day(unsafe { ffi::heronspan_next_twentieth(self.0, rule as u8) })
+    }
+
+    /// The last twentieth on or before the date.
+    pub fn previous_twentieth(self, rule: Rule) -> Answer<Date> {
+        day(unsafe { ffi::heronspan_previous_twentieth(self.0, rule as u8) })
+    }
+}
+
+/// The length of a tenor that is taken a number of times; its unit stays.
+pub fn times(tenor: i32, unit: Unit, count: i32) -> Answer<i32> {
+    let mut out = [0];
+    told(unsafe { ffi::heronspan_times(tenor, unit as u8, count, out.as_mut_ptr(), 1) })?;
+    Ok(out[0])
+}
+
+/// Weekly closed days, Monday the lowest bit of the mask, and closed dates in ascending order.
+#[derive(Clone, Debug, Default, PartialEq, Eq)]
+pub struct Calendar {
+    mask: u8,
+    closed: Vec<u32>,
+}
+
+impl Calendar {
+    /// Saturday and Sunday.
+    pub const WEEKENDS: u8 = 0x60;
+
+    /// A calendar, where it keeps its rule.
+    pub fn new(mask: u8, closed: &[Date]) -> Answer<Calendar> {
+        let calendar = Calendar { mask, closed: closed.iter().map(|date| date.0).collect() };
+        let (list, len) = calendar.lent();
+        told(unsafe { ffi::heronspan_calendar_check(mask, list, len) })?;
+        Ok(calendar)
+    }
+
+    fn lent(&self) -> (*const u32, usize) {
+        (self.closed.as_ptr(), self.closed.len())
+    }
+
+    pub fn is_open(&self, date: Date) -> Answer<bool> {
+        let (list, len) = self.lent();
+        truth(unsafe { ffi::heronspan_is_open(date.0, self.mask, list, len) })
+    }
+
+    pub fn adjust(&self, date: Date, convention: Convention) -> Answer<Date> {
+        let (list, len) = self.lent();
+        day(unsafe { ffi::heronspan_adjust(date.0, convention as u8, self.mask, list, len) })
+    }
+
+    /// The last open day of the date's month.
+    pub fn month_end(&self, date: Date) -> Answer<Date> {
+        let (list, len) = self.lent();
+        day(unsafe { ffi::heronspan_calendar_month_end(date.0, self.mask, list, len) })
+    }
+
+    /// Whether the date is the last open day of its month, or after it. No date is not.
+    pub fn is_month_end(&self, date: Date) -> Answer<bool> {
+        let (list, len) = self.lent();
+        truth(unsafe { ffi::heronspan_is_month_end(date.0, self.mask, list, len) })
+    }
+
+    /// The date moved by the tenor: days are open days, the other units are added and adjusted.
+    pub fn advance(&self, date: Date, tenor: i32, unit: Unit, convention: Convention, monthend: bool) -> Answer<Date> {
+        let (list, len) = self.lent();
+        day(unsafe {
+            ffi::heronspan_calendar_advance(
+                date.0,
+                tenor,
+                unit as u8,
+                convention as u8,
+                monthend as u8,
+                self.mask,
+                list,
+                len,
+            )
+        })
+    }
+}
+
+/// IMM dates and codes. `main` limits them to the main cycle: March, June, September and December.
+pub mod imm {
+    use super::{code, day, ffi, truth, Answer, Date};
+
+    pub fn is_date(date: Date, main: bool) -> Answer<bool> {
+        truth(unsafe { ffi::heronspan_is_imm_date(date.0, main as u8) })
+    }
+
+    pub fn is_code(bytes: &[u8], main: bool) -> bool {
+        truth(unsafe { ffi::heronspan_is_imm_code(bytes.as_ptr(), bytes.len(), main as u8) }) == Ok(true)
+    }
+
+    /// The code of an IMM date: a letter and a digit.
+    pub fn code_of(date: Date) -> Answer<[u8; 2]> {
+        code(unsafe { ffi::heronspan_imm_code(date.0) })
+    }
+
+    /// The earliest IMM date on or after the reference that the code names.
+    pub fn date_of(bytes: &[u8], reference: Date) -> Answer<Date> {
+        day(unsafe { ffi::heronspan_imm_date(bytes.as_ptr(), bytes.len(), reference.0) })
+    }
+
+    /// The earliest IMM date after the reference.
+    pub fn next_date(reference: Date, main: bool) -> Answer<Date> {
+        day(unsafe { ffi::heronspan_next_imm_date(reference.0, main as u8) })
+    }
+
+    /// The earliest IMM date after the one that the code names.
+    pub fn next_date_with_code(bytes: &[u8], main: bool, reference: Date) -> Answer<Date> {
+        day(unsafe { ffi::heronspan_next_imm_date_with_code(bytes.as_ptr(), bytes.len(), main as u8, reference.0) })
+    }
+
+    /// The code of the earliest IMM date after the reference.
+    pub fn next_code(reference: Date, main: bool) -> Answer<[u8; 2]> {
+        code(unsafe { ffi::heronspan_next_imm_code(reference.0, main as u8) })
+    }
+
+    /// The code of the earliest IMM date after the one that the code names.
+    pub fn next_code_with_code(bytes: &[u8], main: bool, reference: Date) -> Answer<[u8; 2]> {
+        code(unsafe { ffi::heronspan_next_imm_code_with_code(bytes.as_ptr(), bytes.len(), main as u8, reference.0) })
+    }
+}
+
+/// Dates, and for each period between them whether it is regular; the tries, and the rule and the tenor in force.
+#[derive(Clone, Debug, PartialEq, Eq)]
+pub struct Schedule {
+    pub dates: Vec<Date>,
+    pub regular: Vec<bool>,
+    pub tries: u32,
+    pub rule: Rule,
+    pub tenor: u32,
+    pub unit: Unit,
+}
+
+/// What a schedule is asked for: Backward, unadjusted and always open unless said.
+#[derive(Clone, Debug)]
+pub struct Request {
+    effective: Date,
+    termination: Date,
+    tenor: i32,
+    unit: Unit,
+    rule: Rule,
+    convention: Convention,
+    terminal: Convention,
+    monthend: bool,
+    first: Date,
+    penultimate: Date,
+    calendar: Calendar,
+    room: usize,
+}
+
+impl Request {
+    /// The most dates that a build makes.
+    pub const MOST: usize = 4096;
+
+    pub fn new(effective: Date, termination: Date, tenor: i32, unit: Unit) -> Request {
+        Request {
+            effective,
+            termination,
+            tenor,
+            unit,
+            rule: Rule::Backward,
+            convention: Convention::Unadjusted,
+            terminal: Convention::Unadjusted,
+            monthend: false,
+            first: Date::NONE,
+            penultimate: Date::NONE,
+            calendar: Calendar::default(),
+            room: Request::MOST,
+        }
+    }
+
+    pub fn rule(mut self, rule: Rule) -> Request {
+        self.rule = rule;
+        self
+    }
+
+    pub fn convention(mut self, convention: Convention) -> Request {
+        self.convention = convention;
+        self
+    }
+
+    /// The convention of the last date.
+    pub fn terminal(mut self, terminal: Convention) -> Request {
+        self.terminal = terminal;
+        self
+    }
+
+    pub fn monthend(mut self, monthend: bool) -> Request {
+        self.monthend = monthend;
+        self
+    }
+
+    pub fn first(mut self, first: Date) -> Request {
+        self.first = first;
+        self
+    }
+
+    pub fn penultimate(mut self, penultimate: Date) -> Request {
+        self.penultimate = penultimate;
+        self
+    }
+
+    pub fn calendar(mut self, calendar: Calendar) -> Request {
+        self.calendar = calendar;
+        self
+    }
+
+    /// How many dates there is room for.
+    pub fn room(mut self, room: usize) -> Request {
+        self.room = room;
+        self
+    }
+
+    pub fn build(&self) -> Answer<Schedule> {
+        let (closed, closed_len) = self.calendar.lent();
+        Schedule::lent(self.room, |dates, flags, record| unsafe {
+            ffi::heronspan_build(
+                self.effective.0,
+                self.termination.0,
+                self.tenor,
+                self.unit as u8,
+                self.rule as u8,
+                self.convention as u8,
+                self.terminal as u8,
+                self.monthend as u8,
+                self.first.0,
+                self.penultimate.0,
+                self.calendar.mask,
+                closed,
+                closed_len,
+                dates.as_mut_ptr(),
+                dates.len(),
+                flags.as_mut_ptr(),
+                flags.len(),
+                record.as_mut_ptr(),
+                record.len(),
+            )
+        })
+    }
+}
+
+impl Schedule {
+    /// The schedule that the bytes of a request ask for, with room for `room` dates.
+    pub fn from_bytes(bytes: &[u8], room: usize) -> Answer<Schedule> {
+        Schedule::lent(room, |dates, flags, record| unsafe {
+            ffi::heronspan_build_bytes(
+                bytes.as_ptr(),
+                bytes.len(),
+                dates.as_mut_ptr(),
+                dates.len(),
+                flags.as_mut_ptr(),
+                flags.len(),
+                record.as_mut_ptr(),
+                record.len(),
+            )
+        })
+    }
+
+    /// What a build leaves in the lists that are lent to it.
+    fn lent(room: usize, build: impl FnOnce(&mut [u32], &mut [u8], &mut [u32; 6]) -> i64) -> Answer<Schedule> {
+        let mut dates = vec![0u32; room];
+        let mut flags = vec![0u8; room];
+        let mut record = [0u32; 6];
+        let count = told(build(&mut dates, &mut flags, &mut record))? as usize;
+        Ok(Schedule {
+            dates: dates[..count].iter().map(|&n| Date(n)).collect(),
+            regular: flags[..count.saturating_sub(1)].iter().map(|&flag| flag == 1).collect(),
+            tries: record[2],
+            rule: RULES[record[3] as usize],
+            tenor: record[4],
+            unit: UNITS[record[5] as usize],
+        })
+    }
+}

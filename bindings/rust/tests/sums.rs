@@ -1,0 +1,117 @@
+//! Sums by hand of document 01, and what is refused.
+use heronspan::{imm, times, Calendar, Convention, Date, Refusal, Request, Rule, Schedule, Unit};
+use std::cmp::Ordering;
+
+fn day(year: u32, month: u32, day: u32) -> Date {
+    Date::make(year, month, day).unwrap()
+}
+
+fn quarterly() -> Request {
+    Request::new(day(2025, 1, 15), day(2025, 12, 20), 3, Unit::Months)
+}
+
+#[test]
+fn dates() {
+    assert_eq!(Date::make(2025, 2, 29), Err(Refusal::Book));
+    assert_eq!(day(2024, 2, 29).fields(), Ok((2024, 2, 29)));
+    assert_eq!(day(2025, 3, 19).weekday(), Ok(3));
+    assert_eq!(day(2025, 1, 31).advance(1, Unit::Months), Ok(day(2025, 2, 28)));
+    assert_eq!(day(2025, 2, 1).month_end(), Ok(day(2025, 2, 28)));
+    assert_eq!(day(2025, 3, 20).next_weekday(3), Ok(day(2025, 3, 26)));
+    assert_eq!(Date::nth_weekday(3, 3, 3, 2025), Ok(day(2025, 3, 19)));
+    assert_eq!(day(2025, 1, 1).difference(day(2025, 3, 1)), Ok(-59));
+    assert_eq!(day(2025, 1, 1).compare(day(2025, 3, 1)), Ok(Ordering::Less));
+    assert_eq!(day(2025, 3, 1).compare(day(2025, 3, 1)), Ok(Ordering::Equal));
+    assert_eq!(day(2025, 3, 2).compare(day(2025, 3, 1)), Ok(Ordering::Greater));
+    assert_eq!(times(-3, Unit::Months, 4), Ok(-12));
+    assert_eq!(times(i32::MAX, Unit::Days, 2), Err(Refusal::Tenor));
+}
+
+#[test]
+fn a_missing_date_is_refused() {
+    let given = day(2025, 3, 1);
+    assert_eq!(Date::NONE.compare(given), Err(Refusal::Book));
+    assert_eq!(given.compare(Date::NONE), Err(Refusal::Book));
+    assert_eq!(given.difference(Date::NONE), Err(Refusal::Book));
+    assert_eq!(Date::NONE.weekday(), Err(Refusal::Book));
+    assert_eq!(imm::next_date(Date::NONE, true), Err(Refusal::Book));
+    assert_eq!(Request::new(Date::NONE, given, 1, Unit::Months).build(), Err(Refusal::Book));
+    assert_eq!(Request::new(given, Date::NONE, 1, Unit::Months).build(), Err(Refusal::Book));
+}
+
+#[test]
+fn calendars() {
+    let weekends = Calendar::new(Calendar::WEEKENDS, &[]).unwrap();
+    assert_eq!(weekends.adjust(day(2025, 5, 31), Convention::Following), Ok(day(2025, 6, 2)));
+    assert_eq!(weekends.adjust(day(2025, 5, 31), Convention::ModifiedFollowing), Ok(day(2025, 5, 30)));
+    assert_eq!(weekends.month_end(day(2025, 5, 1)), Ok(day(2025, 5, 30)));
+    assert_eq!(weekends.is_month_end(day(2025, 5, 30)), Ok(true));
+    assert_eq!(weekends.is_month_end(Date::NONE), Ok(false));
+    let easter = Calendar::new(Calendar::WEEKENDS, &[day(2025, 4, 18), day(2025, 4, 21)]).unwrap();
+    assert_eq!(easter.is_open(day(2025, 4, 18)), Ok(false));
+    let next = easter.advance(day(2025, 4, 17), 1, Unit::Days, Convention::Following, false);
+    assert_eq!(next, Ok(day(2025, 4, 22)));
+    assert_eq!(Calendar::new(127, &[]), Err(Refusal::Calendar));
+}
+
+#[test]
+fn imm_dates_and_codes() {
+    assert_eq!(imm::is_date(day(2025, 4, 16), true), Ok(false));
+    assert_eq!(imm::is_date(day(2025, 4, 16), false), Ok(true));
+    assert!(imm::is_code(b"h5", true));
+    assert!(!imm::is_code(b"H55", true));
+    assert_eq!(imm::code_of(day(2025, 12, 17)), Ok(*b"Z5"));
+    assert_eq!(imm::code_of(day(2025, 12, 18)), Err(Refusal::Code));
+    assert_eq!(imm::date_of(b"H5", day(2025, 3, 20)), Ok(day(2035, 3, 21)));
+    assert_eq!(imm::next_date(day(2025, 3, 19), true), Ok(day(2025, 6, 18)));
+    assert_eq!(imm::next_date_with_code(b"F5", true, day(2025, 1, 1)), Ok(day(2025, 3, 19)));
+    assert_eq!(imm::next_code(day(2025, 3, 19), true), Ok(*b"M5"));
+    assert_eq!(imm::next_code_with_code(b"F5", true, day(2025, 1, 1)), Ok(*b"H5"));
+}
+
+#[test]
+fn schedules() {
+    let built = quarterly().build().unwrap();
+    let dates = [day(2025, 1, 15), day(2025, 3, 20), day(2025, 6, 20), day(2025, 9, 20), day(2025, 12, 20)];
+    assert_eq!(built.dates, dates);
+    assert_eq!(built.regular, [false, true, true, true]);
+    assert_eq!((built.tries, built.rule, built.tenor, built.unit), (4, Rule::Backward, 3, Unit::Months));
+    assert_eq!(quarterly().room(5).build(), Ok(built));
+    assert_eq!(quarterly().room(4).build(), Err(Refusal::Room));
+    assert_eq!(quarterly().first(day(2025, 1, 15)).build(), Err(Refusal::FirstDate));
+    let credit = Request::new(day(2025, 4, 25), day(2025, 12, 20), 3, Unit::Months).rule(Rule::Cds).build().unwrap();
+    assert_eq!(credit.dates, [day(2025, 2, 20), day(2025, 6, 20), day(2025, 9, 20), day(2025, 12, 20)]);
+}
+
+#[test]
+fn the_last_date_has_its_own_convention() {
+    let weekends = Calendar::new(Calendar::WEEKENDS, &[]).unwrap();
+    let built = quarterly().calendar(weekends.clone()).convention(Convention::Following).build().unwrap();
+    assert_eq!(built.dates[3..], [day(2025, 9, 22), day(2025, 12, 20)]);
+    let built = quarterly().calendar(weekends).terminal(Convention::Following).build().unwrap();
+    assert_eq!(built.dates[3..], [day(2025, 9, 20), day(2025, 12, 22)]);
+}
+
+#[test]
+fn twentieths() {
+    assert_eq!(day(2025, 4, 25).next_twentieth(Rule::Cds), Ok(day(2025, 6, 20)));
+    assert_eq!(day(2025, 4, 25).previous_twentieth(Rule::Twentieth), Ok(day(2025, 4, 20)));
+}
+
+#[test]
+fn refusals_have_their_names() {
+    assert_eq!(Refusal::Book.to_string(), "refused 2 BOOK");
+    assert_eq!((Refusal::Request.number(), Refusal::Request.name()), (17, "REQUEST"));
+}
+
+#[test]
+fn request_bytes() {
+    let request = [
+        0x01, 0, 4, 0x00, 0x0B, 0x43, 0x6C, 0x02, 0, 4, 0x00, 0x0B, 0x44, 0x03, 0x03, 0, 3, b'M', 0, 1, 0xFF, 0, 0,
+    ];
+    let built = Schedule::from_bytes(&request, 6).unwrap();
+    assert_eq!(built.dates, (1..=6).map(|month| day(2022, month, 1)).collect::<Vec<_>>());
+    assert_eq!(built.tries, 6);
+    assert_eq!(Schedule::from_bytes(&request, 5), Err(Refusal::Room));
+    assert_eq!(Schedule::from_bytes(&request[..22], 6), Err(Refusal::Request));
+}

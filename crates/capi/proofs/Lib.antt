@@ -1,0 +1,5 @@
+pub mod Calls
+pub mod Counting
+pub mod Places
+pub mod Recording
+pub mod Reading

@@ -1,0 +1,53 @@
+-- `capi::calendars::heronspan_adjust` meets its contract.
+-- Assumes nothing.
+use Rattle.capi.specs.Answers.{itself}
+use Rattle.capi.proofs.Calls.{told, told-refused, named, unnamed, convention-named, convention-unnamed}
+use borrow.Author.Needs.{needs}
+use Rattle.capi.proofs.calendars.heronspan_adjust.Statement.{statement}
+use Rattle.capi.proofs.calendars.heronspan_adjust.Tie as tie
+use Rattle.capi.proofs.calendars.heronspan_adjust.Reads as reads
+use Rattle.capi.proofs.calendars.heronspan_adjust.Lts as lts
+use Rattle.calendar.proofs.adjust.Reads as adjust-reads
+use Rattle.capi.proofs.answers.minus.Reads as minus-reads
+use Rattle.capi.proofs.answers.of_dated.Reads as of-dated-reads
+use Rattle.capi.proofs.numbers.convention_of.Reads as convention-of-reads
+
+convention-of-requires : tie.Need-convention-of-requires
+convention-of-requires c κs = search needs
+
+enum-known-named : tie.Need-enum-known-named
+enum-known-named c = search needs
+
+adjust-requires : tie.Need-adjust-requires
+adjust-requires c κs = search needs
+
+of-dated-requires : tie.Need-of-dated-requires
+of-dated-requires c κs = search needs
+
+enum-known-named-2 : tie.Need-enum-known-named-2
+enum-known-named-2 c = search needs
+
+minus-requires : tie.Need-minus-requires
+minus-requires c κs = search needs
+
+returns : tie.Need-returns
+returns c =
+    told itself (c .of-dated .ok) _ _ (c .of-dated .ensures)
+    (named _ _ _ _ (convention-named (c .before .before .before .before .before .convention-of .ensures) _ (c .before .before .before .named .given .1)) (c .before .adjust .ensures))
+
+returns-2 : tie.Need-returns-2
+returns-2 c =
+    told-refused itself (c .minus .ok) _ _ (c .minus .ensures) (unnamed _ _ _ (convention-unnamed (c .before .before .before .before .convention-of .ensures) _ (c .before .before .named2 .given .1)))
+
+pub heronspan-adjust-spec : {M : Type 1} → statement M
+heronspan-adjust-spec =
+    tie.close
+    (tie.spec
+    convention-of-requires
+    enum-known-named
+    adjust-requires
+    of-dated-requires
+    enum-known-named-2
+    minus-requires
+    returns
+    returns-2)

@@ -1,0 +1,53 @@
+-- `capi::cycles::heronspan_next_imm_code` meets its contract.
+-- Assumes nothing.
+use Rattle.capi.specs.Answers.{twoBytes}
+use Rattle.capi.proofs.Calls.{told, told-refused, named, unnamed, flag-named, flag-unnamed}
+use borrow.Author.Needs.{needs}
+use Rattle.capi.proofs.cycles.heronspan_next_imm_code.Statement.{statement}
+use Rattle.capi.proofs.cycles.heronspan_next_imm_code.Tie as tie
+use Rattle.capi.proofs.cycles.heronspan_next_imm_code.Reads as reads
+use Rattle.capi.proofs.cycles.heronspan_next_imm_code.Lts as lts
+use Rattle.capi.proofs.answers.minus.Reads as minus-reads
+use Rattle.capi.proofs.answers.of_coded.Reads as of-coded-reads
+use Rattle.capi.proofs.numbers.flag_of.Reads as flag-of-reads
+use Rattle.imm.proofs.next_code.Reads as next-code-reads
+
+flag-of-requires : tie.Need-flag-of-requires
+flag-of-requires c κs = search needs
+
+enum-known-named : tie.Need-enum-known-named
+enum-known-named c = search needs
+
+next-code-requires : tie.Need-next-code-requires
+next-code-requires c κs = search needs
+
+of-coded-requires : tie.Need-of-coded-requires
+of-coded-requires c κs = search needs
+
+enum-known-named-2 : tie.Need-enum-known-named-2
+enum-known-named-2 c = search needs
+
+minus-requires : tie.Need-minus-requires
+minus-requires c κs = search needs
+
+returns : tie.Need-returns
+returns c =
+    told twoBytes (c .of-coded .ok) _ _ (c .of-coded .ensures)
+    (named _ _ _ _ (flag-named (c .before .before .before .before .before .flag-of .ensures) _ (c .before .before .before .named .given .1)) (c .before .next-code .ensures))
+
+returns-2 : tie.Need-returns-2
+returns-2 c =
+    told-refused twoBytes (c .minus .ok) _ _ (c .minus .ensures) (unnamed _ _ _ (flag-unnamed (c .before .before .before .before .flag-of .ensures) _ (c .before .before .named2 .given .1)))
+
+pub heronspan-next-imm-code-spec : {M : Type 1} → statement M
+heronspan-next-imm-code-spec =
+    tie.close
+    (tie.spec
+    flag-of-requires
+    enum-known-named
+    next-code-requires
+    of-coded-requires
+    enum-known-named-2
+    minus-requires
+    returns
+    returns-2)

@@ -1,0 +1,53 @@
+-- `capi::cycles::heronspan_next_imm_date` meets its contract.
+-- Assumes nothing.
+use Rattle.capi.specs.Answers.{itself}
+use Rattle.capi.proofs.Calls.{told, told-refused, named, unnamed, flag-named, flag-unnamed}
+use borrow.Author.Needs.{needs}
+use Rattle.capi.proofs.cycles.heronspan_next_imm_date.Statement.{statement}
+use Rattle.capi.proofs.cycles.heronspan_next_imm_date.Tie as tie
+use Rattle.capi.proofs.cycles.heronspan_next_imm_date.Reads as reads
+use Rattle.capi.proofs.cycles.heronspan_next_imm_date.Lts as lts
+use Rattle.capi.proofs.answers.minus.Reads as minus-reads
+use Rattle.capi.proofs.answers.of_dated.Reads as of-dated-reads
+use Rattle.capi.proofs.numbers.flag_of.Reads as flag-of-reads
+use Rattle.imm.proofs.next_date.Reads as next-date-reads
+
+flag-of-requires : tie.Need-flag-of-requires
+flag-of-requires c κs = search needs
+
+enum-known-named : tie.Need-enum-known-named
+enum-known-named c = search needs
+
+next-date-requires : tie.Need-next-date-requires
+next-date-requires c κs = search needs
+
+of-dated-requires : tie.Need-of-dated-requires
+of-dated-requires c κs = search needs
+
+enum-known-named-2 : tie.Need-enum-known-named-2
+enum-known-named-2 c = search needs
+
+minus-requires : tie.Need-minus-requires
+minus-requires c κs = search needs
+
+returns : tie.Need-returns
+returns c =
+    told itself (c .of-dated .ok) _ _ (c .of-dated .ensures)
+    (named _ _ _ _ (flag-named (c .before .before .before .before .before .flag-of .ensures) _ (c .before .before .before .named .given .1)) (c .before .next-date .ensures))
+
+returns-2 : tie.Need-returns-2
+returns-2 c =
+    told-refused itself (c .minus .ok) _ _ (c .minus .ensures) (unnamed _ _ _ (flag-unnamed (c .before .before .before .before .flag-of .ensures) _ (c .before .before .named2 .given .1)))
+
+pub heronspan-next-imm-date-spec : {M : Type 1} → statement M
+heronspan-next-imm-date-spec =
+    tie.close
+    (tie.spec
+    flag-of-requires
+    enum-known-named
+    next-date-requires
+    of-dated-requires
+    enum-known-named-2
+    minus-requires
+    returns
+    returns-2)

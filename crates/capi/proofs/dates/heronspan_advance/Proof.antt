@@ -1,0 +1,55 @@
+-- `capi::dates::heronspan_advance` meets its contract.
+-- Assumes nothing.
+use Rattle.capi.proofs.Calls.{told, told-refused, named, unnamed, unit-named, unit-unnamed, same-count}
+use Rattle.date.specs.Date.{advanceOf}
+use Rattle.capi.specs.Answers.{itself}
+use borrow.Author.Needs.{needs}
+use Rattle.capi.proofs.dates.heronspan_advance.Statement.{statement}
+use Rattle.capi.proofs.dates.heronspan_advance.Tie as tie
+use Rattle.capi.proofs.dates.heronspan_advance.Reads as reads
+use Rattle.capi.proofs.dates.heronspan_advance.Lts as lts
+use Rattle.capi.proofs.answers.minus.Reads as minus-reads
+use Rattle.capi.proofs.answers.of_dated.Reads as of-dated-reads
+use Rattle.capi.proofs.numbers.unit_of.Reads as unit-of-reads
+use Rattle.date.proofs.Date.advance.Reads as advance-reads
+
+unit-of-requires : tie.Need-unit-of-requires
+unit-of-requires c κs = search needs
+
+enum-known-named : tie.Need-enum-known-named
+enum-known-named c = search needs
+
+advance-requires : tie.Need-advance-requires
+advance-requires c κs = search needs
+
+of-dated-requires : tie.Need-of-dated-requires
+of-dated-requires c κs = search needs
+
+enum-known-named-2 : tie.Need-enum-known-named-2
+enum-known-named-2 c = search needs
+
+minus-requires : tie.Need-minus-requires
+minus-requires c κs = search needs
+
+returns : tie.Need-returns
+returns c =
+    let at = c .before .before .before .before .before .before in
+    told itself (c .of-dated .ok) _ _ (c .of-dated .ensures)
+    (named _ _ _ _ (unit-named (c .before .before .before .before .before .unit-of .ensures) _ (c .before .before .before .named .given .1))
+    (same-count (λ z. advanceOf (at .args .day) z (c .before .before .before .named .given .0 .0)) _ _ (at .fits .count) (c .before .advance .ensures)))
+
+returns-2 : tie.Need-returns-2
+returns-2 c = told-refused itself (c .minus .ok) _ _ (c .minus .ensures) (unnamed _ _ _ (unit-unnamed (c .before .before .before .before .unit-of .ensures) _ (c .before .before .named2 .given .1)))
+
+pub heronspan-advance-spec : {M : Type 1} → statement M
+heronspan-advance-spec =
+    tie.close
+    (tie.spec
+    unit-of-requires
+    enum-known-named
+    advance-requires
+    of-dated-requires
+    enum-known-named-2
+    minus-requires
+    returns
+    returns-2)

@@ -1,0 +1,243 @@
+/* Heronspan: dates, calendars, IMM codes and payment schedules.
+ *
+ * Each function answers in one number: zero or more is the value, below zero is minus the number of a refusal
+ * (HERONSPAN_BOOK and the other names below). No input stops a call, and a refusal leaves what was lent as it was, but for
+ * the record of a build.
+ *
+ * A date is a day number: 1 is 1 January of year 1, and 0 is no date. Dates that are given lie in the book, 1901-01-01
+ * (693961) to 2199-12-31 (803168); where a date is due, 0 is refused with HERONSPAN_BOOK. Results lie in 1800 to 2399.
+ *
+ * A unit, a rule, a convention or a flag outside its list is refused with HERONSPAN_REQUEST, before all else but a lent list
+ * that is too short for what is always written to it (HERONSPAN_ROOM).
+ *
+ * A list is a pointer and the count of its elements. A list of no elements may be a null pointer. Lists that are written to
+ * overlap with no other list of the call.
+ *
+ * Every function is proved to do what the definition that its contract names says (crates/capi). */
+#ifndef HERONSPAN_H
+#define HERONSPAN_H
+
+#include <stddef.h>
+#include <stdint.h>
+
+#ifdef __cplusplus
+extern "C" {
+#endif
+
+/* ---- refusals */
+enum {
+    HERONSPAN_UNEVEN = 1,            /* the lists of dates and flags differ in length */
+    HERONSPAN_BOOK = 2,              /* a date outside the book, a result outside 1800 to 2399, or no such day */
+    HERONSPAN_CALENDAR = 3,          /* all seven days closed, or the closed dates break their rule */
+    HERONSPAN_NEGATIVE = 4,          /* a tenor below 0 (builds) */
+    HERONSPAN_TENOR = 5,             /* a tenor over 366 days, 520 weeks, 1200 months or 100 years */
+    HERONSPAN_FIRST_DATE = 6,        /* first date not after effective, or after termination */
+    HERONSPAN_FIRST_NOT_IMM = 7,     /* first date no IMM date */
+    HERONSPAN_FIRST_WRONG_RULE = 8,  /* first date given under a rule that takes none */
+    HERONSPAN_LAST_DATE = 9,         /* next-to-last date not after effective, or not before termination */
+    HERONSPAN_LAST_NOT_IMM = 10,     /* next-to-last date no IMM date */
+    HERONSPAN_LAST_WRONG_RULE = 11,  /* next-to-last date given under a rule that takes none */
+    HERONSPAN_MONTHEND = 12,         /* end of month on, and the rule is neither Zero, Backward nor Forward */
+    HERONSPAN_CLOSED = 13,           /* none of the 31 days of a search is open */
+    HERONSPAN_ROOM = 14,             /* a lent list is too short */
+    HERONSPAN_COLLAPSED = 15,        /* the end merge leaves two dates, the second not after the first */
+    HERONSPAN_CODE = 16,             /* no IMM code, or no IMM date */
+    HERONSPAN_REQUEST = 17           /* a number outside its list */
+};
+
+/* ---- units of a tenor */
+enum {
+    HERONSPAN_DAYS = 0,
+    HERONSPAN_WEEKS = 1,
+    HERONSPAN_MONTHS = 2,
+    HERONSPAN_YEARS = 3
+};
+
+/* ---- date generation rules */
+enum {
+    HERONSPAN_ZERO = 0,
+    HERONSPAN_BACKWARD = 1,
+    HERONSPAN_FORWARD = 2,
+    HERONSPAN_TWENTIETH = 3,
+    HERONSPAN_TWENTIETH_IMM = 4,
+    HERONSPAN_THIRD_WEDNESDAY = 5,
+    HERONSPAN_THIRD_WEDNESDAY_INCLUSIVE = 6,
+    HERONSPAN_OLD_CDS = 7,
+    HERONSPAN_CDS = 8,
+    HERONSPAN_CDS2015 = 9
+};
+
+/* ---- business day conventions */
+enum {
+    HERONSPAN_UNADJUSTED = 0,
+    HERONSPAN_FOLLOWING = 1,
+    HERONSPAN_MODIFIED_FOLLOWING = 2,
+    HERONSPAN_PRECEDING = 3,
+    HERONSPAN_MODIFIED_PRECEDING = 4
+};
+
+/* ---- weekly closed days, Monday the lowest bit */
+enum {
+    HERONSPAN_NEVER_CLOSED = 0,
+    HERONSPAN_WEEKENDS = 0x60
+};
+
+/* ---- the order that heronspan_compare answers */
+enum {
+    HERONSPAN_BEFORE = 0,
+    HERONSPAN_SAME = 1,
+    HERONSPAN_AFTER = 2
+};
+
+/* The most closed dates that a calendar takes, and the most dates that a build makes. */
+#define HERONSPAN_MOST 4096
+
+/* ---- dates */
+
+/* The day number of a civil date. */
+int64_t heronspan_make(uint32_t year, uint32_t month, uint32_t day);
+
+/* The civil date, as year * 10000 + month * 100 + day. */
+int64_t heronspan_fields(uint32_t day);
+
+/* 1 is Monday and 7 Sunday. */
+int64_t heronspan_weekday(uint32_t day);
+
+/* The last day of the day's month. */
+int64_t heronspan_month_end(uint32_t day);
+
+/* The day moved by a count of units, on no calendar. Months keep the day, or take the last of a shorter month. */
+int64_t heronspan_advance(uint32_t day, int32_t count, uint8_t unit);
+
+/* The first day with that weekday on or after the day. */
+int64_t heronspan_next_weekday(uint32_t day, uint32_t weekday);
+
+/* The nth day with that weekday in a month. */
+int64_t heronspan_nth_weekday(uint32_t nth, uint32_t weekday, uint32_t month, uint32_t year);
+
+/* HERONSPAN_BEFORE, HERONSPAN_SAME or HERONSPAN_AFTER: where the first day lies beside the second. */
+int64_t heronspan_compare(uint32_t a, uint32_t b);
+
+/* 0, and how many days a lies after b is written to the first place of `days`. A list with no place is HERONSPAN_ROOM. */
+int64_t heronspan_difference(uint32_t a, uint32_t b, int32_t *days, size_t days_len);
+
+/* 0, and the length of `count` times the tenor is written to the first place of `out`; the unit stays. */
+int64_t heronspan_times(int32_t tenor, uint8_t unit, int32_t count, int32_t *out, size_t out_len);
+
+/* ---- calendars: a mask of weekly closed days, and closed dates, strictly ascending, at most HERONSPAN_MOST */
+
+/* 0 where the calendar keeps its rule. */
+int64_t heronspan_calendar_check(uint8_t mask, const uint32_t *closed, size_t closed_len);
+
+/* 1 where the day is open, 0 where it is closed. */
+int64_t heronspan_is_open(uint32_t day, uint8_t mask, const uint32_t *closed, size_t closed_len);
+
+/* The day adjusted by a convention. */
+int64_t heronspan_adjust(uint32_t day, uint8_t convention, uint8_t mask, const uint32_t *closed, size_t closed_len);
+
+/* The last open day of the day's month. */
+int64_t heronspan_calendar_month_end(uint32_t day, uint8_t mask, const uint32_t *closed, size_t closed_len);
+
+/* 1 where the day is the last open day of its month, or after it; else 0, as for day 0. */
+int64_t heronspan_is_month_end(uint32_t day, uint8_t mask, const uint32_t *closed, size_t closed_len);
+
+/* The day moved by the tenor: days are open days, the other units are added and adjusted. `monthend` is 0 or 1. */
+int64_t heronspan_calendar_advance(uint32_t day, int32_t tenor, uint8_t unit, uint8_t convention, uint8_t monthend,
+                                   uint8_t mask, const uint32_t *closed, size_t closed_len);
+
+/* ---- IMM dates and codes. `main` is 1 for the main cycle (March, June, September, December), 0 for every month. A code is a
+ * letter and a digit; where one is answered, it is letter * 256 + digit, both bytes. */
+
+/* 1 where the day is an IMM date, else 0. */
+int64_t heronspan_is_imm_date(uint32_t day, uint8_t main);
+
+/* 1 where the bytes are a code, else 0. */
+int64_t heronspan_is_imm_code(const uint8_t *code, size_t code_len, uint8_t main);
+
+/* The code of an IMM date. */
+int64_t heronspan_imm_code(uint32_t day);
+
+/* The earliest IMM date on or after the day that the code names. */
+int64_t heronspan_imm_date(const uint8_t *code, size_t code_len, uint32_t day);
+
+/* The earliest IMM date after the day. */
+int64_t heronspan_next_imm_date(uint32_t day, uint8_t main);
+
+/* The earliest IMM date after the one that the code names. */
+int64_t heronspan_next_imm_date_with_code(const uint8_t *code, size_t code_len, uint8_t main, uint32_t day);
+
+/* The codes of these two. */
+int64_t heronspan_next_imm_code(uint32_t day, uint8_t main);
+int64_t heronspan_next_imm_code_with_code(const uint8_t *code, size_t code_len, uint8_t main, uint32_t day);
+
+/* ---- twentieths. For the rules of IMM months (TwentiethIMM, OldCDS, CDS, CDS2015) those of March, June, September and
+ * December; for every other rule those of every month. */
+
+/* The first twentieth on or after the day. */
+int64_t heronspan_next_twentieth(uint32_t day, uint8_t rule);
+
+/* The last twentieth on or before the day; for the rules of IMM months one or two months further back where its month is
+ * not one of the four, as document 01 has it. */
+int64_t heronspan_previous_twentieth(uint32_t day, uint8_t rule);
+
+/* ---- schedules */
+
+/* Places of a build's record. */
+enum {
+    HERONSPAN_NUMBER = 0, /* the refusal's number, or 0 */
+    HERONSPAN_COUNT = 1,  /* how many dates */
+    HERONSPAN_TRIES = 2,  /* how many candidates were tried */
+    HERONSPAN_RULE = 3,   /* the rule in force */
+    HERONSPAN_SIZE = 4,   /* the length of the tenor in force */
+    HERONSPAN_UNIT = 5,   /* and its unit */
+    HERONSPAN_RECORD = 6  /* how many places there are */
+};
+
+/* Builds a schedule and answers how many dates it has. They are written to the start of `dates`, and one fewer flags, each 1
+ * where the period that ends at the next date is regular, to the start of `flags`; the two lists are equally long, and later
+ * places keep what they held. `terminal` is the convention of the last date. An anchor (`first`, `penultimate`) of 0 is no
+ * anchor.
+ *
+ * `answer` has at least HERONSPAN_RECORD places, else HERONSPAN_ROOM is answered and nothing is written. The record of the
+ * build is written to its start; of a refused one it is the number, then zeros. */
+int64_t heronspan_build(uint32_t effective, uint32_t termination, int32_t tenor, uint8_t unit, uint8_t rule,
+                        uint8_t convention, uint8_t terminal, uint8_t monthend, uint32_t first, uint32_t penultimate,
+                        uint8_t mask, const uint32_t *closed, size_t closed_len, uint32_t *dates, size_t dates_len,
+                        uint8_t *flags, size_t flags_len, uint32_t *answer, size_t answer_len);
+
+/* The same from the bytes of a request, as document 01 lays them out; bytes that are no request are HERONSPAN_REQUEST. */
+int64_t heronspan_build_bytes(const uint8_t *bytes, size_t bytes_len, uint32_t *dates, size_t dates_len, uint8_t *flags,
+                              size_t flags_len, uint32_t *answer, size_t answer_len);
+
+#ifdef __cplusplus
+}
+#endif
+
+/* ---- names */
+
+/* The name of the refusal that an answer below zero gives, BOOK for one; "" for every other answer. */
+static inline const char *heronspan_refusal_name(int64_t answer) {
+    static const char *const names[] = {
+        "",
+        "UNEVEN",
+        "BOOK",
+        "CALENDAR",
+        "NEGATIVE",
+        "TENOR",
+        "FIRST_DATE",
+        "FIRST_NOT_IMM",
+        "FIRST_WRONG_RULE",
+        "LAST_DATE",
+        "LAST_NOT_IMM",
+        "LAST_WRONG_RULE",
+        "MONTHEND",
+        "CLOSED",
+        "ROOM",
+        "COLLAPSED",
+        "CODE",
+        "REQUEST",
+    };
+    return answer < 0 && answer >= -HERONSPAN_REQUEST ? names[-answer] : "";
+}
+
+#endif
