@@ -1,13 +1,18 @@
 #!/usr/bin/env python3
-"""Asks the Rust and the reference the same questions, and says where they differ.
+"""Asks the Rust, the law and ours the same questions, and says where they differ.
 
-    oracle/compare.py random SEED BUILDS SMALL     that many random builds and small questions
-    oracle/compare.py systematic [KIND ..]         every day, month and code; a grid of builds
+    oracle/compare.py [WORDS] random SEED BUILDS SMALL [KIND ..]     that many random builds and small questions
+    oracle/compare.py [WORDS] systematic [KIND ..]                   every day, month and code; a grid of builds
 
-A build is asked twice: for its list, and for its tries and the greatest length of its list. Every difference must be
-one of those that have a name here. The first that has none is printed and ends the run with status 1. The closing
-tables count outcomes, and give each name its smallest input. Names marked (shared) are of what the law takes over from
-the Rust.
+    --room            each build is asked of ours and the law a second time, into lists of other lengths, often too short
+    --without-ours    the library is not built here: the Rust and the law alone
+    --ours=PROGRAM    another program of target/oracle in the place of `ours`
+
+The law is oracle/reference.py; ours is the library, asked by oracle/ours through the functions that customers call. A
+build is asked twice: for its list, and for its tries and the least room that suffices. Ours and the law must agree
+wholly. A difference between them and the Rust must be one of those that have a name here. The first that is neither is
+printed and ends the run with status 1. The closing tables count outcomes, and give each name its smallest input. Names
+marked (shared) are of what the law takes over from the Rust.
 """
 import itertools
 import os
@@ -15,28 +20,48 @@ import subprocess
 import sys
 import time
 from collections import Counter
+from concurrent.futures import ThreadPoolExecutor
 
 import reference
 import requests
 from reference import Refused
 
-PROGRAM = os.path.join(os.path.dirname(os.path.abspath(__file__)), "..", "target", "oracle", "oracle")
+BUILT = os.path.join(os.path.dirname(os.path.abspath(__file__)), "..", "target", "oracle")
 BATCH = 2000
+EVERY = 10  # seconds between lines of progress
 RULES = "Zero Backward Forward Twentieth TwentiethIMM ThirdWednesday ThirdWednesdayInclusive OldCDS CDS CDS2015".split()
 TODAY = 739252  # 2025-01-01, which smallest inputs are drawn to
 
 # Positions of dates among a question's words.
 DATES = {"build": (1, 2, 9, 10), "trace": (1, 2, 9, 10), "date": (2,), "nextdatecode": (3,), "nextcodecode": (3,),
-         "difference": (1, 2), "compare": (1, 2), "nth": (), "make": (), "times": (), "immcode": ()}
+         "difference": (1, 2), "compare": (1, 2), "nth": (), "make": (), "times": (), "immcode": (), "check": ()}
 # Where the calendar starts.
-CALENDAR = {"build": 11, "trace": 11, "adjust": 3, "monthend": 2, "ismonthend": 2, "advance": 6}
+CALENDAR = {"build": 11, "trace": 11, "lent": 14, "check": 1, "open": 2, "adjust": 3, "monthend": 2, "ismonthend": 2, "advance": 6}
+
+
+def answers(program, lines, timeout=None):
+    if not lines:
+        return []
+    done = subprocess.run([os.path.join(BUILT, program)], input="\n".join(lines) + "\n", capture_output=True, text=True,
+                          timeout=timeout)
+    said = done.stdout.split("\n")[:-1]
+    if done.returncode or len(said) != len(lines):
+        raise Differs(f"{lines[min(len(said), len(lines) - 1)]}\n    {program} stopped here: {done.stderr.strip()}")
+    return said
 
 
 def rust(lines, timeout=None):
-    done = subprocess.run([PROGRAM], input="\n".join(lines) + "\n", capture_output=True, text=True, timeout=timeout)
-    if done.returncode:
-        sys.exit(f"compare: the oracle stopped: {done.stderr.strip()}")
-    return done.stdout.split("\n")[:-1]
+    return answers("oracle", lines, timeout)
+
+
+def of_rust(line):
+    """Whether the Rust can be asked: it has no lent lists, no request bytes, no calendar check, no byte outside a list."""
+    words = line.split(None, 9)
+    return words[0] not in ("lent", "bytes", "check") and not reference.outside(words)
+
+
+def traces(lines):
+    return ["trace" + line[5:] for line in lines if line.startswith("build ")]
 
 
 class Differs(Exception):
@@ -70,16 +95,24 @@ def stopped(number, words):
     return None
 
 
-def judge_build(words, said, traced, sample):
+def agree(law, own):
+    """Ours is what the law says, where ours was asked."""
+    if own is not None and own != law:
+        raise Differs(f"ours: {own}\n    the law: {law}")
+
+
+def judge_build(line, said, traced, own, own_traced):
     """Outcome, and the names that the question falls under."""
-    line = " ".join(words)
+    words = line.split()
     names = []
     ends = traced.split()
-    build = reference.read_build(reference.Words(" ".join(words[1:])))
+    build = reference.read_build(reference.Words(line[6:]))
     try:
         build.run(reference.PLACES)
     except Refused as refused:
         number = refused.number
+        agree(f"refused {number}", own)
+        agree(f"refused {number}", own_traced)
         if number in (2, 3, 5):
             name = stopped(number, words)
             return f"refused {number}", [f"{name}: the Rust's {said.split()[0]}"]
@@ -106,12 +139,11 @@ def judge_build(words, said, traced, sample):
         return "refused 15 = panic", [f"a merge panics: {RULES[build.rule]}"]
     given = " ".join(map(str, ["ok", build.rule, build.unit, build.length, len(build.dates), *build.dates,
                                *map(int, build.flags)]))
-    if said != given or traced != f"ok {build.tries} {build.peak}":
-        raise Differs(f"{said} / {traced}, {given} / ok {build.tries} {build.peak}")
-    if sample:
-        for room, wanted in ((build.peak, given), (build.peak - 1, "refused 14")):
-            if reference.answer(line, room) != wanted:
-                raise Differs(f"room {room}")
+    ended = f"ok {build.tries} {build.peak}"
+    agree(given, own)
+    agree(ended, own_traced)
+    if said != given or traced != ended:
+        raise Differs(f"the Rust: {said} / {traced}\n    the law: {given} / {ended}")
     steps = [b - a for a, b in zip(build.dates, build.dates[1:])]
     if len(build.dates) == 1 and build.termination < build.effective:
         names.append("(shared) reversed dates give one date")
@@ -126,9 +158,14 @@ def judge_build(words, said, traced, sample):
     return "ok", names
 
 
-def judge_small(words, said):
-    kind, names = words[0], []
-    expected = reference.answer(" ".join(words))
+def judge_small(line, said, own):
+    """The Rust's answer is None where it cannot be asked."""
+    words, names = line.split(), []
+    kind = words[0]
+    expected = reference.answer(line)
+    agree(expected, own)
+    if said is None:
+        return "ours = the law, " + (expected if expected.startswith("refused") else "given"), []
     if said == "unasked":
         if expected != "0" and not expected.startswith("refused"):
             raise Differs(f"{said}, {expected}")
@@ -157,7 +194,7 @@ def judge_small(words, said):
             return "refused 16", [f"a code of three bytes or more is taken: {kind}"]
     if kind == "immcode" and said == "panic" and expected == "0" and int(words[1][:2], 16) > 127 and len(words[1]) == 4:
         return "no = panic", ["a two-byte letter stops the code check"]
-    raise Differs(f"{said}, {expected}")
+    raise Differs(f"the Rust: {said}\n    the law: {expected}")
 
 
 def size(line):
@@ -230,43 +267,66 @@ def cut(text):
 
 
 class Run:
-    def __init__(self):
+    def __init__(self, ours=None):
         self.outcomes, self.names, self.small = Counter(), Counter(), {}
-        self.asked, self.start = Counter(), time.time()
+        self.asked, self.start, self.told = Counter(), time.time(), time.time()
+        self.ours = ours
 
-    def judged(self, lines, sample=False, timeout=None):
+    def asking(self, pool, lines, timeout=None):
+        """The lines, and what the Rust and ours will have answered to them and to the traces of their builds."""
+        asked = [line for line in lines if of_rust(line)]
+        of_us = lines + traces(lines) if self.ours else []
+        return (lines, pool.submit(rust, asked + traces(asked), timeout),
+                pool.submit(answers, self.ours, of_us, timeout))
+
+    def judging(self, lines, said, own):
         """Outcome and names of each line; raises on a difference without a name."""
-        asked = list(lines)
-        traces = ["trace" + line[5:] for line in asked if line.startswith("build ")]
-        said = rust(asked + traces, timeout)
-        traced = iter(said[len(asked):])
-        for i, line in enumerate(asked):
-            words = line.split()
+        said, own = iter(said.result()), iter(own.result())
+        said = [next(said) if of_rust(line) else None for line in lines] + list(said)
+        own = list(own) if self.ours else [None] * (2 * len(lines))
+        at = len(lines)
+        traced, own_traced = iter(said[at:]), iter(own[at:])
+        for line, theirs, mine in zip(lines, said, own):
             try:
-                if words[0] == "build":
-                    yield line, *judge_build(words, said[i], next(traced), sample and i % 10 == 0)
+                if theirs is not None and line.startswith("build "):
+                    yield line, *judge_build(line, theirs, next(traced), mine, next(own_traced))
                 else:
-                    yield line, *judge_small(words, said[i])
+                    if line.startswith("build "):
+                        agree(reference.answer(line), next(own_traced))
+                    yield line, *judge_small(line, theirs, mine)
             except Differs as differs:
                 raise Differs(f"{line}\n    {differs}") from None
 
+    def judged(self, lines, timeout=None):
+        with ThreadPoolExecutor(2) as pool:
+            yield from self.judging(*self.asking(pool, list(lines), timeout))
+
     def compare(self, questions):
+        """While one batch is judged the next is being answered."""
         questions = iter(questions)
-        while batch := list(itertools.islice(questions, BATCH)):
-            for line, outcome, names in self.judged(batch, True):
-                words = line.split(None, 6)
-                kind = words[0]
-                self.asked[kind] += 1
-                row = f"build {RULES[int(words[5])]}" if kind == "build" else kind
-                self.outcomes[row, outcome] += 1
-                for name in names:
-                    self.names[name] += 1
-                    if name not in self.small or size(line) < size(self.small[name]):
-                        self.small[name] = line
-            total = sum(self.asked.values())
-            if total % 200000 == 0:
-                print(f"{total} questions, {self.asked['build']} of them builds, {time.time() - self.start:.0f} s",
-                      file=sys.stderr, flush=True)
+        with ThreadPoolExecutor(2) as pool:
+            ahead = None
+            while (batch := list(itertools.islice(questions, BATCH))) or ahead:
+                ready, ahead = ahead, self.asking(pool, batch) if batch else None
+                if ready:
+                    self.count(ready)
+
+    def count(self, ready):
+        for line, outcome, names in self.judging(*ready):
+            words = line.split(None, 6)
+            kind = words[0]
+            self.asked[kind] += 1
+            inside = kind == "build" and int(words[5]) < len(RULES)
+            row = f"build {RULES[int(words[5])]}" if inside else kind
+            self.outcomes[row, outcome] += 1
+            for name in names:
+                self.names[name] += 1
+                if name not in self.small or size(line) < size(self.small[name]):
+                    self.small[name] = line
+        if time.time() > self.told + EVERY:
+            self.told = time.time()
+            print(f"{sum(self.asked.values())} questions, {self.asked['build']} of them builds, "
+                  f"{self.told - self.start:.0f} s", file=sys.stderr, flush=True)
 
     def shrink(self, name):
         line, end = self.small[name], time.time() + 2
@@ -275,38 +335,66 @@ class Run:
             if not tries:
                 break
             try:
-                line = next(t for t, _, names in self.judged(tries, timeout=1) if name in names)
+                line = next(t for t, _, names in self.judged(tries, 1) if name in names)
             except (Differs, StopIteration, subprocess.TimeoutExpired):
                 break
         return line
 
     def report(self):
-        print("kind, outcome (Heronspan's law = the Rust), questions")
+        took = time.time() - self.start
+        print(f"kind, outcome ({'ours and ' if self.ours else ''}the law = the Rust), questions")
         for (row, outcome), count in sorted(self.outcomes.items()):
-            print(f"  {row:34} {outcome:24} {count:9}")
+            print(f"  {row:34} {outcome:32} {count:9}")
         print("differences by name, times met, smallest input")
         for name in sorted(self.names):
             line = self.shrink(name)
             print(f"  {name}: {self.names[name]}")
             print(f"      {cut(line)} -> {cut(rust([line])[0])} | {cut(reference.answer(line))}")
         builds, total = self.asked["build"], sum(self.asked.values())
-        print(f"{builds} builds and {total - builds} small questions in {time.time() - self.start:.0f} s: "
-              "no difference without a name")
+        print(f"{builds} builds and {total - builds} small questions in {took:.0f} s: no difference without a name"
+              + (", none between ours and the law" if self.ours else "; ours was left out"))
+
+
+def small_lent(build, at):
+    """The build into lists of another length: 0 to 14 by turns, seldom of two lengths or with a short record."""
+    dates = at % 15
+    flags = dates + (at % 89 == 0)
+    record = 5 if at % 97 == 0 else 6
+    return f"lent {dates} {flags} {record}{build[5:]}"
+
+
+def with_rooms(questions):
+    for at, line in enumerate(questions):
+        yield line
+        if line.startswith("build "):
+            yield small_lent(line, at)
+
+
+def questions_of(args, kinds):
+    if len(args) >= 4 and args[0] == "random" and set(args[4:]) <= set(kinds):
+        builds = requests.random_questions(f"{args[1]} builds", int(args[2]), ["build"])
+        small = requests.random_questions(f"{args[1]} small", int(args[3]), args[4:] or kinds)
+        return itertools.chain(builds, small)
+    if args[:1] == ["systematic"] and set(args[1:]) <= set(requests.SYSTEMATIC):
+        return requests.systematic_questions(args[1:])
+    sys.exit(__doc__.strip())
 
 
 def main():
-    args = sys.argv[1:]
-    if len(args) == 4 and args[0] == "random":
-        builds = requests.random_questions(f"{args[1]} builds", int(args[2]), ["build"])
-        small = requests.random_questions(f"{args[1]} small", int(args[3]), requests.SMALL)
-        questions = itertools.chain(builds, small)
-    elif args[:1] == ["systematic"] and set(args[1:]) <= set(requests.SYSTEMATIC):
-        questions = requests.systematic_questions(args[1:])
-    else:
+    words = {word for word in sys.argv[1:] if word.startswith("--")}
+    args = [word for word in sys.argv[1:] if word not in words]
+    program = next((word[7:] for word in words if word.startswith("--ours=")), "ours")
+    if not words <= {"--room", "--without-ours", f"--ours={program}"}:
         sys.exit(__doc__.strip())
-    run = Run()
+    kinds = [*requests.SMALL, *requests.MORE]
+    if "--without-ours" in words:
+        program, kinds = None, [*requests.SMALL, "open"]
+    elif not os.path.exists(os.path.join(BUILT, program)):
+        sys.exit(f"compare: missing target/oracle/{program} (oracle/build makes it; --without-ours leaves it out)")
+    questions = questions_of(args, kinds)
+    run = Run(program)
     try:
-        run.compare(questions)
+        run.compare(with_rooms(questions) if program and "--room" in words else questions)
     except Differs as differs:
         print(f"differs: {differs}")
         sys.exit(1)

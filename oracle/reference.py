@@ -3,7 +3,7 @@
 
     oracle/reference.py [--room N] < questions > answers
 
-Reads the questions that target/oracle/oracle reads and prints one answer a line: what the function gives, in the same
+Reads the questions that target/oracle/ours reads and prints one answer a line: what the function gives, in the same
 words, or `refused` and the number. Dates are day numbers, 1 is 0001-01-01; Python's own calendar splits them.
 """
 import sys
@@ -15,10 +15,10 @@ FIRST_OF_SPAN, LAST_OF_SPAN = 657072, 876216
 PLACES = 4096
 SEARCH = 31
 
-BOOK, CALENDAR, NEGATIVE, TENOR = 2, 3, 4, 5
+UNEVEN, BOOK, CALENDAR, NEGATIVE, TENOR = 1, 2, 3, 4, 5
 FIRST_RANGE, FIRST_IMM, FIRST_RULE = 6, 7, 8
 LAST_RANGE, LAST_IMM, LAST_RULE = 9, 10, 11
-MONTHEND, CLOSED, ROOM, COLLAPSED, CODE = 12, 13, 14, 15, 16
+MONTHEND, CLOSED, ROOM, COLLAPSED, CODE, REQUEST = 12, 13, 14, 15, 16, 17
 
 ZERO, BACKWARD, FORWARD, TWENTIETH, TWENTIETH_IMM, WEDNESDAY, WEDNESDAY_ALL, OLD_CDS, CDS, CDS2015 = range(10)
 UNADJUSTED, FOLLOWING, MODIFIED_FOLLOWING, PRECEDING, MODIFIED_PRECEDING = range(5)
@@ -399,6 +399,22 @@ class Build:
 
 # Questions
 
+# Where bytes that stand for something lie among a question's words, and how many such bytes there are; units are letters.
+UNIT = 0
+BUILD = ((3, UNIT), (5, 10), (6, 5), (7, 5), (8, 2))
+BYTES = {"build": BUILD, "trace": BUILD, "lent": tuple((at + 3, size) for at, size in BUILD),
+         "adjust": ((2, 5),), "advance": ((2, UNIT), (4, 5), (5, 2)), "next20": ((2, 10),), "prev20": ((2, 10),),
+         "dateadvance": ((2, UNIT),), "times": ((1, UNIT),),
+         **{kind: ((2, 2),) for kind in "immdate immcode nextdate nextdatecode nextcode nextcodecode".split()}}
+RECORD = 6
+
+
+def outside(words):
+    """Whether some byte lies outside its list."""
+    return any(words[at] not in LIMITS if size == UNIT else int(words[at]) >= size
+               for at, size in BYTES.get(words[0], ()))
+
+
 class Words:
     def __init__(self, line):
         self.words = line.split()
@@ -432,16 +448,79 @@ def read_build(w):
                  w.number(), w.number(), w.calendar())
 
 
-def ask_build(w, room):
-    b = read_build(w)
+def said_build(b, room):
     b.run(room)
     return " ".join(map(str, ["ok", b.rule, b.unit, b.length, len(b.dates), *b.dates, *map(int, b.flags)]))
+
+
+def ask_build(w, room):
+    return said_build(read_build(w), room)
 
 
 def ask_trace(w, room):
     b = read_build(w)
     b.run(room)
     return f"ok {b.tries} {b.peak}"
+
+
+def ask_lent(w):
+    """A build into lists of these lengths; the record's own comes before all else."""
+    dates, flags, record = w.number(), w.number(), w.number()
+    need(record >= RECORD, ROOM)
+    need(not outside(w.words), REQUEST)
+    need(dates == flags, UNEVEN)
+    return ask_build(w, min(dates, PLACES))
+
+
+# The length of a field's body by its tag, or what holds of it.
+FOUR, BYTE = (lambda body: len(body) == 4), (lambda size: lambda body: len(body) == 1 and body[0] < size)
+FIELDS = {1: FOUR, 2: FOUR, 3: lambda body: len(body) == 3 and chr(body[0]) in LIMITS, 4: BYTE(10), 5: BYTE(5), 6: BYTE(5),
+          7: BYTE(2), 8: FOUR, 9: FOUR, 10: BYTE(128), 11: lambda body: len(body) <= 4 * PLACES and len(body) % 4 == 0}
+LONGEST, END = 20000, 255
+
+
+def read_request(data):
+    """The build that request bytes ask for."""
+    need(len(data) <= LONGEST, REQUEST)
+    fields, at, last = {}, 0, 0
+    while True:
+        need(at + 3 <= len(data), REQUEST)
+        tag, size = data[at], data[at + 1] << 8 | data[at + 2]
+        body = data[at + 3:at + 3 + size]
+        at += 3 + size
+        need(tag > last and at <= len(data), REQUEST)
+        if tag == END:
+            break
+        need(tag in FIELDS and FIELDS[tag](body), REQUEST)
+        fields[tag], last = body, tag
+    need(size == 0 and at == len(data) and 1 in fields and 2 in fields, REQUEST)
+
+    def number(tag, default=0):
+        return int.from_bytes(fields[tag], "big") if tag in fields else default
+
+    tenor, closed = fields.get(3, b"D\0\0"), fields.get(11, b"")
+    shut = tuple(int.from_bytes(closed[i:i + 4], "big") for i in range(0, len(closed), 4))
+    return Build(number(1), number(2), chr(tenor[0]), int.from_bytes(tenor[1:], "big", signed=True), number(4, BACKWARD),
+                 number(5), number(6), number(7), number(8), number(9), Calendar(number(10), shut))
+
+
+def ask_bytes(w):
+    dates, flags, record = w.number(), w.number(), w.number()
+    need(record >= RECORD, ROOM)
+    build = read_request(w.bytes())
+    need(dates == flags, UNEVEN)
+    return said_build(build, min(dates, PLACES))
+
+
+def ask_check(w):
+    w.calendar().check()
+    return 0
+
+
+def ask_open(w):
+    day, calendar = w.book(), w.calendar()
+    calendar.check()
+    return int(calendar.open(day))
 
 
 def ask_adjust(w):
@@ -504,6 +583,9 @@ def ask_times(w):
 
 
 ASK = {
+    "bytes": ask_bytes,
+    "check": ask_check,
+    "open": ask_open,
     "adjust": ask_adjust,
     "monthend": ask_monthend,
     "ismonthend": ask_ismonthend,
@@ -534,6 +616,9 @@ def answer(line, room=PLACES):
     w = Words(line)
     kind = w.word()
     try:
+        if kind == "lent":
+            return ask_lent(w)
+        need(not outside(w.words), REQUEST)
         if kind == "build":
             return ask_build(w, room)
         if kind == "trace":

@@ -1,7 +1,7 @@
 #!/usr/bin/env python3
-"""Writes questions for target/oracle/oracle, one a line.
+"""Writes questions for target/oracle/oracle and target/oracle/ours, one a line.
 
-    oracle/requests.py random SEED COUNT [KIND ..]     COUNT questions of the kinds named, or of every kind
+    oracle/requests.py random SEED COUNT [KIND ..]     COUNT questions of the kinds named, or of every kind of the Rust's
     oracle/requests.py systematic [KIND ..]            every day, month and code; a grid of builds
 
 The same seed gives the same questions.
@@ -10,6 +10,8 @@ import itertools
 import random
 import sys
 from datetime import date
+
+from reference import BYTES
 
 FIRST, LAST = 693961, 803168
 FIRST_OF_SPAN, LAST_OF_SPAN = 657072, 876216
@@ -47,6 +49,22 @@ def add(day, unit, count):
 
 def in_book(day):
     return min(max(day, FIRST), LAST)
+
+
+def request_bytes(words, whole):
+    """The request bytes of a build's words; fields that say what is so without them are left out unless it is whole."""
+    effective, termination, unit, length, rule, convention, terminal, month_end, first, last, mask, _, *closed = words
+    tenor = unit.encode() + (int(length) & 65535).to_bytes(2, "big")
+    fields = [(1, effective, 4), (2, termination, 4), (3, tenor, 3), (4, rule, 1), (5, convention, 1), (6, terminal, 1),
+              (7, month_end, 1), (8, first, 4), (9, last, 4), (10, mask, 1),
+              (11, b"".join(int(day).to_bytes(4, "big") for day in closed), None)]
+    default = {3: b"D\0\0", 4: "1", 11: b"", **dict.fromkeys((5, 6, 7, 8, 9, 10), "0")}
+    data = bytearray()
+    for tag, value, size in fields:
+        if whole or value != default.get(tag):
+            body = value if isinstance(value, bytes) else int(value).to_bytes(size, "big")
+            data += bytes([tag]) + len(body).to_bytes(2, "big") + body
+    return data + b"\xff\0\0"
 
 
 class Questions:
@@ -167,6 +185,10 @@ class Questions:
             periods = r.randrange(1, 13) if y < .7 else r.randrange(1, 41) if y < .97 else r.randrange(1, longest + 1)
             if y > .9997 and longest >= 400:
                 periods = r.randrange(4000, 4300)
+                if unit == "D":
+                    length = size = 1
+            elif unit == "D":  # the Rust walks to every candidate day by day, which here is at most a million days
+                periods = min(periods, int((2000000 / size) ** .5))
             periods = max(1, min(periods, 105000 // (size * DAYS[unit])))
             if effective + periods * size * DAYS[unit] > LAST:
                 effective = in_book(add(self.day() if r.random() < .5 else LAST, unit, -periods * size))
@@ -198,16 +220,19 @@ class Questions:
             unit, length = "Y", 100
         elif abs(termination - effective) > 4300 * size * DAYS[unit]:
             unit = "Y"
+        elif unit == "D" and (termination - effective) ** 2 > 20000000 * size:
+            unit = "Y"
         return (f"{kind} {effective} {termination} {unit} {length} {rule} {convention} {terminal} {month_end} "
                 f"{first} {last} {self.calendar(days or [FIRST])}")
 
     def month_end_of(self, day):
-        d = date.fromordinal(day)
+        d = date.fromordinal(day or FIRST)
         return month_end(d.year, d.month)
 
     def anchor(self, start, other, unit, size, rule, sign):
         """A date some tenors away from the start, or anywhere between the two, seldom outside."""
         r = self.r
+        start, other = start or FIRST, other or FIRST
         x = r.random()
         if x < .55:
             day = add(start, unit, sign * size * r.randrange(0, 3))
@@ -216,7 +241,10 @@ class Questions:
         elif x < .9:
             day = start + int(r.random() * (other - start))
         else:
-            day = r.choice((start, other, start - sign, other + sign, start + sign, other - sign, self.any_day()))
+            far = self.any_day()
+            if unit == "D" and abs(far - start) > 3000:
+                far = start - sign * 3000
+            day = r.choice((start, other, start - sign, other + sign, start + sign, other - sign, far))
         if day == 0:
             return 0
         if rule == WEDNESDAY and r.random() < .9:
@@ -363,12 +391,59 @@ class Questions:
         length = r.choice((r.randrange(-400, 401), r.randrange(-2**31, 2**31)))
         return f"times {r.choice('DWMY')} {length} {r.choice((r.randrange(-5, 6), r.randrange(-10**7, 10**7)))}"
 
+    # Asked of the law and of ours, but for `open`
+
+    def open(self):
+        day = self.any_day()
+        return f"open {day} {self.calendar([day or FIRST])}"
+
+    def check(self):
+        return f"check {self.calendar([self.day()])}"
+
+    def lent(self):
+        """A build into lists that are often too short, seldom of two lengths, and a record that seldom is."""
+        r = self.r
+        build = self.build(longest=40)
+        dates = r.choice((0, 1, 2, 2, 3, 3, 4, 4, 5, r.randrange(14), r.randrange(45), 4096))
+        flags = dates if r.random() < .95 else r.randrange(14)
+        record = 6 if r.random() < .9 else r.randrange(10)
+        return f"lent {dates} {flags} {record}{build[5:]}"
+
+    def bytes(self):
+        """A build as request bytes, often with something wrong in them."""
+        r = self.r
+        words = self.lent().split()
+        data = request_bytes(words[4:], r.random() < .5)
+        x = r.random()
+        if x < .15:
+            data[r.randrange(len(data))] = r.randrange(256)
+        elif x < .20:
+            data[r.randrange(len(data))] ^= 1 << r.randrange(8)
+        elif x < .23:
+            del data[r.randrange(len(data)):]
+        elif x < .26:
+            del data[r.randrange(len(data))]
+        elif x < .29:
+            data.insert(r.randrange(len(data) + 1), r.randrange(256))
+        elif x < .31:
+            data += bytes(r.choice((1, 3, 20000)))
+        return " ".join(["bytes", *words[1:4], data.hex() or "-"])
+
+    def strange(self):
+        """A question in which one byte lies outside its list."""
+        r = self.r
+        words = self.ask(r.choice(list(BYTES))).split()
+        at, size = r.choice(BYTES[words[0]])
+        words[at] = str(r.choice((size or 4, (size or 4) + 1, r.randrange(size or 4, 256), 255)))
+        return " ".join(words)
+
     def ask(self, kind):
         return getattr(self, {"code": "code_of", "date": "date_of"}.get(kind, kind))()
 
 
 SMALL = ("next20 prev20 adjust monthend ismonthend advance immdate immcode code date nextdate nextdatecode nextcode "
          "nextcodecode dateadvance nth nextweekday dmonthend make fields difference compare times").split()
+MORE = ["open", "check", "lent", "bytes", "strange"]
 KINDS = ["build", "trace", *SMALL]
 
 
@@ -476,7 +551,7 @@ def systematic_questions(kinds=None):
 
 def main():
     args = sys.argv[1:]
-    if len(args) >= 3 and args[0] == "random" and set(args[3:]) <= set(KINDS):
+    if len(args) >= 3 and args[0] == "random" and set(args[3:]) <= {*KINDS, *MORE}:
         questions = random_questions(args[1], int(args[2]), args[3:] or KINDS)
     elif args[:1] == ["systematic"] and set(args[1:]) <= set(SYSTEMATIC):
         questions = systematic_questions(args[1:])

@@ -1,6 +1,6 @@
 //! Reads questions from standard input, one a line, and prints the Rust's answer to each, one a line. README.md beside
 //! this crate lists the questions and the answers. `--search N` lets a search meet N closed days before it is stopped
-//! (31 if not said).
+//! (31 if not said). `--time ROUNDS` and `--once` answer as timing.rs says.
 #![allow(dead_code)]
 
 mod utils {
@@ -27,6 +27,7 @@ mod time {
 mod cities;
 mod counted;
 mod table;
+mod timing;
 
 use chrono::{Datelike, NaiveDate};
 use counted::tally;
@@ -40,6 +41,7 @@ use time::date::Date;
 use time::enums::{BusinessDayConvention, DateGenerationRule, TimeUnit, Weekday};
 use time::imm::IMM;
 use time::period::Period;
+use time::schedule::Schedule;
 use utils::errors::{QSError, Result};
 
 /// Why a line gets no answer of the Rust's.
@@ -282,7 +284,7 @@ impl Build {
 
 /// Hands a build's fields to the builder of the named module.
 macro_rules! built {
-    ($module:path, $request:ident, $calendar:expr) => {{
+    ($module:path, $request:expr, $calendar:expr) => {{
         use $module as schedule;
         schedule::MakeSchedule::new($request.effective, $request.termination)
             .with_tenor($request.tenor)
@@ -297,24 +299,30 @@ macro_rules! built {
     }};
 }
 
+impl Build {
+    fn built(&self) -> Result<Schedule> {
+        let calendar = self.calendar.clone();
+        built!(crate::time::schedule, self, calendar)
+    }
+}
+
+fn listed(schedule: &Schedule) -> String {
+    let rule = RULES.iter().position(|r| *r == schedule.rule()).expect("ten rules");
+    let tenor = schedule.tenor();
+    let mut line = format!("ok {rule} {} {} {}", unit(tenor.units()), tenor.length(), schedule.dates().len());
+    for date in schedule.dates() {
+        line.push(' ');
+        line.push_str(&day(*date));
+    }
+    for regular in schedule.is_regular() {
+        line.push_str(if *regular { " 1" } else { " 0" });
+    }
+    line
+}
+
 fn build(w: &mut Words) -> Read<String> {
     let request = Build::read(w)?;
-    Ok(said(|| {
-        let calendar = request.calendar;
-        let schedule = built!(crate::time::schedule, request, calendar)?;
-        let rule = RULES.iter().position(|r| *r == schedule.rule()).expect("ten rules");
-        let tenor = schedule.tenor();
-        let mut line =
-            format!("ok {rule} {} {} {}", unit(tenor.units()), tenor.length(), schedule.dates().len());
-        for date in schedule.dates() {
-            line.push(' ');
-            line.push_str(&day(*date));
-        }
-        for regular in schedule.is_regular() {
-            line.push_str(if *regular { " 1" } else { " 0" });
-        }
-        Ok(line)
-    }))
+    Ok(said(|| Ok(listed(&request.built()?))))
 }
 
 /// How the same build ends, how many candidates it tries, and how long its list gets before the merges.
@@ -353,6 +361,7 @@ fn answer(line: &str) -> Read<String> {
         "trace" => trace(w)?,
         "next20" => ask!(d: date, r: rule; Ok(day(counted::schedule::next20(d, r)))),
         "prev20" => ask!(d: date, r: rule; Ok(day(counted::schedule::prev20(d, r)))),
+        "open" => ask!(d: date, cal: calendar; Ok(flag(cal.is_business_day(&d)))),
         "adjust" => ask!(d: date, c: convention, cal: calendar; Ok(day(cal.adjust(d, Some(c))))),
         "monthend" => ask!(d: date, cal: calendar; Ok(day(cal.end_of_month(d)))),
         "ismonthend" => ask!(d: date, cal: calendar; Ok(flag(cal.is_end_of_month(&d)))),
@@ -387,14 +396,18 @@ fn answer(line: &str) -> Read<String> {
 
 fn main() {
     let args: Vec<String> = std::env::args().skip(1).collect();
+    let mut rounds = None;
     match args.iter().map(String::as_str).collect::<Vec<_>>()[..] {
         [] => {}
         ["--search", n] if n.parse::<u32>().is_ok_and(|n| n > 0) => table::set_limit(n.parse().expect("read before")),
+        ["--time", n] if n.parse::<usize>().is_ok_and(|n| n > 0) => rounds = n.parse().ok(),
+        ["--once"] => rounds = Some(0),
         _ => {
-            eprintln!("usage: oracle [--search DAYS] < questions > answers");
+            eprintln!("usage: oracle [--search DAYS | --time ROUNDS | --once] < questions > answers");
             std::process::exit(2);
         }
     }
+    let answer = |line: &str| rounds.map_or_else(|| answer(line), |n| timing::answer(line, n));
     std::panic::set_hook(Box::new(|_| {}));
     let mut out = BufWriter::new(std::io::stdout().lock());
     for (index, line) in std::io::stdin().lock().lines().enumerate() {

@@ -1,0 +1,44 @@
+/* Faults planted between the questions and the library, one to a program, to see that oracle/compare.py notices. Linked
+   with --wrap, so that the calls of ours.c come here first. */
+#include "../../include/heronspan.h"
+
+#if defined FAULT_BUILD || defined FAULT_LIST
+/* One try too many where a next-to-last date is given; or a flag too many where there is room. */
+int64_t __real_heronspan_build(uint32_t, uint32_t, int32_t, uint8_t, uint8_t, uint8_t, uint8_t, uint8_t, uint32_t,
+                               uint32_t, uint8_t, const uint32_t *, size_t, uint32_t *, size_t, uint8_t *, size_t,
+                               uint32_t *, size_t);
+int64_t __wrap_heronspan_build(uint32_t effective, uint32_t termination, int32_t tenor, uint8_t unit, uint8_t rule,
+                               uint8_t convention, uint8_t terminal, uint8_t monthend, uint32_t first,
+                               uint32_t penultimate, uint8_t mask, const uint32_t *closed, size_t count,
+                               uint32_t *dates, size_t dates_places, uint8_t *flags, size_t flags_places,
+                               uint32_t *answer, size_t answer_places)
+{
+    int64_t n = __real_heronspan_build(effective, termination, tenor, unit, rule, convention, terminal, monthend, first,
+                                       penultimate, mask, closed, count, dates, dates_places, flags, flags_places,
+                                       answer, answer_places);
+#ifdef FAULT_BUILD
+    if (n > 0 && penultimate)
+        answer[2]++;
+#else
+    if (n > 0 && (size_t)n < flags_places)
+        flags[n - 1] = 0;
+#endif
+    return n;
+}
+#elif defined FAULT_CALENDAR
+/* Modified Following from the last day of a month of 31 days leaves the month. */
+int64_t __real_heronspan_adjust(uint32_t, uint8_t, uint8_t, const uint32_t *, size_t);
+int64_t __wrap_heronspan_adjust(uint32_t day, uint8_t convention, uint8_t mask, const uint32_t *closed, size_t count)
+{
+    if (convention == 2 && heronspan_fields(day) % 100 == 31)
+        convention = 1;
+    return __real_heronspan_adjust(day, convention, mask, closed, count);
+}
+#elif defined FAULT_IMM
+/* The next IMM date of the main cycle may be the day itself. */
+int64_t __real_heronspan_next_imm_date(uint32_t, uint8_t);
+int64_t __wrap_heronspan_next_imm_date(uint32_t day, uint8_t main)
+{
+    return main == 1 && heronspan_is_imm_date(day, 1) == 1 ? (int64_t)day : __real_heronspan_next_imm_date(day, main);
+}
+#endif

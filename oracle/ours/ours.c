@@ -1,0 +1,348 @@
+/* Reads questions from standard input, one a line, and prints Heronspan's answer to each, one a line, in the words of
+   oracle/reference.py. The library is asked through the functions that customers call. Every call with a lent list is
+   also held to what it may write; where it wrote elsewhere the answer says so, and so agrees with nobody's. */
+#include <stdarg.h>
+#include "../../include/heronspan.h"
+#include "question.h"
+
+enum { PLACES = 4096, EXTRA = 4, RECORD = 6, ROOM = -14 };
+
+/* Answers. */
+
+static void say(const char *form, ...)
+{
+    va_list values;
+    va_start(values, form);
+    vprintf(form, values);
+    va_end(values);
+}
+
+static void say_number(int64_t n)
+{
+    if (n < 0)
+        say("refused %lld", -(long long)n);
+    else
+        say("%lld", (long long)n);
+}
+
+static void say_code(int64_t n)
+{
+    if (n < 0)
+        say_number(n);
+    else
+        say("%c%c", (int)(n >> 8), (int)(n & 255));
+}
+
+static void say_order(int64_t n)
+{
+    if (n < 0)
+        say_number(n);
+    else
+        say("%lld", (long long)n - 1);
+}
+
+static void say_fields(uint32_t d)
+{
+    int64_t f = heronspan_fields(d), w = heronspan_weekday(d);
+    if (f < 0 && f == w)
+        say_number(f);
+    else
+        say("%lld %lld %lld %lld", (long long)f / 10000, (long long)f / 100 % 100, (long long)f % 100, (long long)w);
+}
+
+/* Counts with a sign, which stand in a lent list. */
+
+static const int32_t UNWRITTEN = 0x5ea1ed;
+
+static void say_count(int64_t n, const int32_t *out, int64_t without_place, const int32_t *untouched,
+                      const char *before)
+{
+    if (without_place != ROOM || *untouched != UNWRITTEN)
+        say("without a place %lld", (long long)without_place);
+    else if (out[1] != UNWRITTEN || (n < 0 && out[0] != UNWRITTEN))
+        say("wrote elsewhere");
+    else if (n < 0)
+        say_number(n);
+    else if (n > 0)
+        say("answered %lld", (long long)n);
+    else
+        say("%s%ld", before, (long)out[0]);
+}
+
+static void say_difference(uint32_t a, uint32_t b)
+{
+    int32_t out[2] = {UNWRITTEN, UNWRITTEN}, none = UNWRITTEN;
+    int64_t n = heronspan_difference(a, b, out, 1);
+    say_count(n, out, heronspan_difference(a, b, &none, 0), &none, "");
+}
+
+static void say_times(uint8_t u, int32_t length, int32_t times)
+{
+    int32_t out[2] = {UNWRITTEN, UNWRITTEN}, none = UNWRITTEN;
+    char before[3] = {u < 4 ? UNITS[u] : '?', ' ', 0};
+    int64_t n = heronspan_times(length, u, times, out, 1);
+    say_count(n, out, heronspan_times(length, u, times, &none, 0), &none, before);
+}
+
+/* Builds. */
+
+static uint32_t dates[PLACES + EXTRA], answer[RECORD + EXTRA];
+static uint8_t flags[PLACES + EXTRA];
+
+enum { DATE = 0xd47e, FLAG = 0xf1, NUMBER = 0xa45 };
+
+static void fresh(size_t places)
+{
+    for (size_t i = 0; i < places + EXTRA; i++) {
+        dates[i] = DATE;
+        flags[i] = FLAG;
+    }
+    for (size_t i = 0; i < RECORD + EXTRA; i++)
+        answer[i] = NUMBER;
+}
+
+/* Whether the places from those that were to be written keep their bytes. */
+static int kept(size_t dates_written, size_t flags_written, size_t record, size_t places)
+{
+    for (size_t i = dates_written; i < places + EXTRA; i++)
+        if (dates[i] != DATE)
+            return 0;
+    for (size_t i = flags_written; i < places + EXTRA; i++)
+        if (flags[i] != FLAG)
+            return 0;
+    for (size_t i = record; i < RECORD + EXTRA; i++)
+        if (answer[i] != NUMBER)
+            return 0;
+    return 1;
+}
+
+/* A refusal's record is its number and zeros. */
+static int recorded(int64_t n)
+{
+    if (answer[0] != (n < 0 ? (uint32_t)-n : 0) || answer[1] != (n < 0 ? 0 : (uint32_t)n))
+        return 0;
+    return n >= 0 || (answer[2] == 0 && answer[3] == 0 && answer[4] == 0 && answer[5] == 0);
+}
+
+/* Asks for a build; the request is the bytes last read where none is given. */
+static int64_t called(const struct build *b, size_t dates_places, size_t flags_places, size_t record)
+{
+    if (!b)
+        return heronspan_build_bytes(code, code_length, dates, dates_places, flags, flags_places, answer, record);
+    return heronspan_build(b->effective, b->termination, b->tenor, b->unit, b->rule, b->convention, b->terminal,
+                           b->monthend, b->first, b->penultimate, b->calendar.mask, b->calendar.closed,
+                           b->calendar.count, dates, dates_places, flags, flags_places, answer, record);
+}
+
+/* Builds into lists lent with these lengths; minus the refusal, or the count. Says too whether lists or record hold what
+   they should not. */
+static int64_t built(const struct build *b, size_t dates_places, size_t flags_places, size_t record, int *wrong)
+{
+    size_t places = dates_places > flags_places ? dates_places : flags_places;
+    fresh(places);
+    int64_t n = called(b, dates_places, flags_places, record);
+    size_t given = n > 0 ? (size_t)n : 0;
+    *wrong = given > dates_places || !kept(given, given ? given - 1 : 0, record < RECORD ? 0 : RECORD, places) ||
+             (record >= RECORD && !recorded(n));
+    return n;
+}
+
+static void say_build(const struct build *b, size_t dates_places, size_t flags_places, size_t record)
+{
+    int wrong;
+    int64_t n = built(b, dates_places, flags_places, record, &wrong);
+    if (wrong) {
+        say("wrote elsewhere %lld", (long long)n);
+        return;
+    }
+    if (n < 0) {
+        say_number(n);
+        return;
+    }
+    say("ok %u %c %u %lld", answer[3], answer[5] < 4 ? UNITS[answer[5]] : '?', answer[4], (long long)n);
+    for (int64_t i = 0; i < n; i++)
+        say(" %u", dates[i]);
+    for (int64_t i = 0; i + 1 < n; i++)
+        say(" %u", flags[i]);
+}
+
+/* Tries, and the least room that suffices: looked for from one place below the list's own length. */
+static void say_trace(const struct build *b)
+{
+    int wrong;
+    int64_t n = built(b, PLACES, PLACES, RECORD, &wrong);
+    if (wrong) {
+        say("wrote elsewhere %lld", (long long)n);
+        return;
+    }
+    if (n < 0) {
+        say_number(n);
+        return;
+    }
+    uint32_t tries = answer[2];
+    for (size_t room = n > 0 ? (size_t)n - 1 : 0; room <= PLACES; room++) {
+        int64_t again = built(b, room, room, RECORD, &wrong);
+        if (wrong || (again != n && again != ROOM) || (again == n && answer[2] != tries)) {
+            say("room %zu answered %lld", room, (long long)again);
+            return;
+        }
+        if (again == n) {
+            say("ok %u %zu", tries, room);
+            return;
+        }
+    }
+    say("no room suffices twice");
+}
+
+static int is(const char *kind, const char *name)
+{
+    return strcmp(kind, name) == 0;
+}
+
+static int ask_schedule(const char *kind)
+{
+    if (is(kind, "build")) {
+        struct build b = read_build();
+        say_build(&b, PLACES, PLACES, RECORD);
+    } else if (is(kind, "trace")) {
+        struct build b = read_build();
+        say_trace(&b);
+    } else if (is(kind, "lent") || is(kind, "bytes")) {
+        size_t dates_places = (size_t)number(), flags_places = (size_t)number(), record = (size_t)number();
+        if (dates_places > PLACES || flags_places > PLACES || record > RECORD + EXTRA)
+            stop("longer lists than there are");
+        struct build b;
+        if (is(kind, "lent"))
+            b = read_build();
+        else
+            read_code();
+        say_build(is(kind, "lent") ? &b : NULL, dates_places, flags_places, record);
+    } else {
+        return 0;
+    }
+    return 1;
+}
+
+static int ask_date(const char *kind)
+{
+    if (is(kind, "dateadvance")) {
+        uint32_t d = day();
+        uint8_t u = unit();
+        say_number(heronspan_advance(d, count(), u));
+    } else if (is(kind, "nth")) {
+        uint32_t n = day(), w = day(), m = day();
+        say_number(heronspan_nth_weekday(n, w, m, day()));
+    } else if (is(kind, "nextweekday")) {
+        uint32_t d = day();
+        say_number(heronspan_next_weekday(d, day()));
+    } else if (is(kind, "dmonthend")) {
+        say_number(heronspan_month_end(day()));
+    } else if (is(kind, "make")) {
+        uint32_t y = day(), m = day();
+        say_number(heronspan_make(y, m, day()));
+    } else if (is(kind, "fields")) {
+        say_fields(day());
+    } else if (is(kind, "difference")) {
+        uint32_t a = day();
+        say_difference(a, day());
+    } else if (is(kind, "compare")) {
+        uint32_t a = day();
+        say_order(heronspan_compare(a, day()));
+    } else if (is(kind, "times")) {
+        uint8_t u = unit();
+        int32_t length = count();
+        say_times(u, length, count());
+    } else {
+        return 0;
+    }
+    return 1;
+}
+
+static int ask_calendar(const char *kind)
+{
+    if (is(kind, "check")) {
+        struct calendar c = calendar();
+        say_number(heronspan_calendar_check(c.mask, c.closed, c.count));
+    } else if (is(kind, "open")) {
+        uint32_t d = day();
+        struct calendar c = calendar();
+        say_number(heronspan_is_open(d, c.mask, c.closed, c.count));
+    } else if (is(kind, "adjust")) {
+        uint32_t d = day();
+        uint8_t convention = byte();
+        struct calendar c = calendar();
+        say_number(heronspan_adjust(d, convention, c.mask, c.closed, c.count));
+    } else if (is(kind, "monthend")) {
+        uint32_t d = day();
+        struct calendar c = calendar();
+        say_number(heronspan_calendar_month_end(d, c.mask, c.closed, c.count));
+    } else if (is(kind, "ismonthend")) {
+        uint32_t d = day();
+        struct calendar c = calendar();
+        say_number(heronspan_is_month_end(d, c.mask, c.closed, c.count));
+    } else if (is(kind, "advance")) {
+        uint32_t d = day();
+        uint8_t u = unit();
+        int32_t length = count();
+        uint8_t convention = byte(), monthend = byte();
+        struct calendar c = calendar();
+        say_number(heronspan_calendar_advance(d, length, u, convention, monthend, c.mask, c.closed, c.count));
+    } else {
+        return 0;
+    }
+    return 1;
+}
+
+static int ask_cycle(const char *kind)
+{
+    if (is(kind, "next20")) {
+        uint32_t d = day();
+        say_number(heronspan_next_twentieth(d, byte()));
+    } else if (is(kind, "prev20")) {
+        uint32_t d = day();
+        say_number(heronspan_previous_twentieth(d, byte()));
+    } else if (is(kind, "immdate")) {
+        uint32_t d = day();
+        say_number(heronspan_is_imm_date(d, byte()));
+    } else if (is(kind, "immcode")) {
+        read_code();
+        say_number(heronspan_is_imm_code(code, code_length, byte()));
+    } else if (is(kind, "code")) {
+        say_code(heronspan_imm_code(day()));
+    } else if (is(kind, "date")) {
+        read_code();
+        say_number(heronspan_imm_date(code, code_length, day()));
+    } else if (is(kind, "nextdate")) {
+        uint32_t d = day();
+        say_number(heronspan_next_imm_date(d, byte()));
+    } else if (is(kind, "nextdatecode")) {
+        read_code();
+        uint8_t main_cycle = byte();
+        say_number(heronspan_next_imm_date_with_code(code, code_length, main_cycle, day()));
+    } else if (is(kind, "nextcode")) {
+        uint32_t d = day();
+        say_code(heronspan_next_imm_code(d, byte()));
+    } else if (is(kind, "nextcodecode")) {
+        read_code();
+        uint8_t main_cycle = byte();
+        say_code(heronspan_next_imm_code_with_code(code, code_length, main_cycle, day()));
+    } else {
+        return 0;
+    }
+    return 1;
+}
+
+int main(void)
+{
+    static char input[1 << 16], output[1 << 16];
+    setvbuf(stdin, input, _IOFBF, sizeof input);
+    setvbuf(stdout, output, _IOFBF, sizeof output);
+    while (next_line()) {
+        char *kind = word();
+        if (!ask_schedule(kind) && !ask_date(kind) && !ask_calendar(kind) && !ask_cycle(kind))
+            stop("no such question");
+        end();
+        putchar('\n');
+    }
+    return 0;
+}
