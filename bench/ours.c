@@ -1,0 +1,135 @@
+/* (a) Our library, by the functions that customers call. */
+#include "../include/heronspan.h"
+#include "timing.h"
+
+enum { PLACES = 4096, RECORD = 6 };
+
+struct asked {
+    struct build build;
+    uint32_t day;
+    int32_t length;
+    uint8_t unit, convention, monthend, main_cycle;
+    struct calendar calendar;
+    int64_t answer;
+};
+
+static uint32_t dates[PLACES], record[RECORD];
+static uint8_t flags[PLACES];
+
+static void build(void *with)
+{
+    struct asked *a = (struct asked *)with;
+    struct build *b = &a->build;
+    a->answer = heronspan_build(b->effective, b->termination, b->tenor, b->unit, b->rule, b->convention, b->terminal,
+                                b->monthend, b->first, b->penultimate, b->calendar.mask, b->calendar.closed,
+                                b->calendar.count, dates, PLACES, flags, PLACES, record, RECORD);
+}
+
+static void adjust(void *with)
+{
+    struct asked *a = (struct asked *)with;
+    a->answer = heronspan_adjust(a->day, a->convention, a->calendar.mask, a->calendar.closed, a->calendar.count);
+}
+
+static void advance(void *with)
+{
+    struct asked *a = (struct asked *)with;
+    a->answer = heronspan_calendar_advance(a->day, a->length, a->unit, a->convention, a->monthend, a->calendar.mask,
+                                           a->calendar.closed, a->calendar.count);
+}
+
+static void is_imm(void *with)
+{
+    struct asked *a = (struct asked *)with;
+    a->answer = heronspan_is_imm_date(a->day, a->main_cycle);
+}
+
+static void next_imm(void *with)
+{
+    struct asked *a = (struct asked *)with;
+    a->answer = heronspan_next_imm_date(a->day, a->main_cycle);
+}
+
+static void imm_code(void *with)
+{
+    struct asked *a = (struct asked *)with;
+    a->answer = heronspan_imm_code(a->day);
+}
+
+static void imm_date(void *with)
+{
+    struct asked *a = (struct asked *)with;
+    a->answer = heronspan_imm_date(code, code_length, a->day);
+}
+
+static void say_code(int64_t n)
+{
+    if (n < 0)
+        printf("refused %lld", -(long long)n);
+    else
+        printf("%c%c", (int)(n >> 8), (int)(n & 255));
+}
+
+static void say_number(int64_t n)
+{
+    printf(n < 0 ? "refused %lld" : "%lld", n < 0 ? -(long long)n : (long long)n);
+}
+
+static void ask(const char *kind)
+{
+    struct asked a = {0};
+    if (strcmp(kind, "build") == 0) {
+        a.build = read_build();
+        print_times(build, &a);
+        if (a.answer < 0)
+            say_number(a.answer);
+        else
+            print_schedule(record[3], UNITS[record[5] & 3], record[4], (long)a.answer, dates, flags);
+        return;
+    }
+    if (strcmp(kind, "adjust") == 0) {
+        a.day = day();
+        a.convention = byte();
+        a.calendar = calendar();
+        print_times(adjust, &a);
+    } else if (strcmp(kind, "advance") == 0) {
+        a.day = day();
+        a.unit = unit();
+        a.length = count();
+        a.convention = byte();
+        a.monthend = byte();
+        a.calendar = calendar();
+        print_times(advance, &a);
+    } else if (strcmp(kind, "immdate") == 0) {
+        a.day = day();
+        a.main_cycle = byte();
+        print_times(is_imm, &a);
+    } else if (strcmp(kind, "nextdate") == 0) {
+        a.day = day();
+        a.main_cycle = byte();
+        print_times(next_imm, &a);
+    } else if (strcmp(kind, "date") == 0) {
+        read_code();
+        a.day = day();
+        print_times(imm_date, &a);
+    } else if (strcmp(kind, "code") == 0) {
+        a.day = day();
+        print_times(imm_code, &a);
+        say_code(a.answer);
+        return;
+    } else {
+        printf("unasked");
+        return;
+    }
+    say_number(a.answer);
+}
+
+int main(int argc, char **argv)
+{
+    read_words(argc, argv);
+    while (next_line()) {
+        ask(word());
+        putchar('\n');
+    }
+    return 0;
+}
