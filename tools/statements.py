@@ -1,0 +1,99 @@
+#!/usr/bin/env python3
+"""Lists every public function with its statement, from the sources.
+
+    tools/statements.py            writes the list, as docs/STATEMENTS.md has it
+    tools/statements.py --check    says nothing, and ends with status 1 where the list in docs is another one
+
+Ends with status 1 and a line for each public function that has a `requires`, or no `ensures`. A function is public if it is
+`pub fn` in the root of a library or in modules that are `pub mod` all the way; programs have none.
+"""
+import os
+import re
+import sys
+
+ROOT = os.path.dirname(os.path.dirname(os.path.abspath(__file__)))
+LISTED = os.path.join(ROOT, "docs", "STATEMENTS.md")
+HEAD = """# Statements
+
+Every public function, its statement, and the file that it stands in; made by tools/statements.py from the sources. `r` is
+the answer, `x .entry` and `x .exit` what is lent before the call and after it. A name with a capital is a record of facts, any
+other a function; both are defined in the crate's specs/, or in those of a crate below it.
+"""
+
+
+def crates():
+    with open(os.path.join(ROOT, "crates.txt")) as f:
+        for line in f:
+            line = line.split("#")[0].strip()
+            if line:
+                yield line.split(":")[0]
+
+
+def read(crate, module):
+    path = os.path.join("crates", crate, "src", module + ".rt")
+    with open(os.path.join(ROOT, path)) as f:
+        return path, f.read()
+
+
+def modules(crate):
+    """The public modules of a library: path and text."""
+    if not os.path.exists(os.path.join(ROOT, "crates", crate, "src", "lib.rt")):
+        return
+    path, text = read(crate, "lib")
+    yield crate, path, text
+    for name in re.findall(r"^pub mod (\w+);", text, re.M):
+        path, inner = read(crate, name)
+        yield f"{crate}::{name}", path, inner
+
+
+FUNCTION = re.compile(r"^(?P<in> *)pub (?:extern \"C\" )?fn (?P<name>\w+)(?P<rest>.*?)^(?P=in)\{", re.M | re.S)
+IMPL = re.compile(r"^impl (\w+) \{", re.M)
+
+
+def functions():
+    for crate in crates():
+        for place, path, text in modules(crate):
+            for found in FUNCTION.finditer(text):
+                owner = place
+                if found["in"]:
+                    owner = f"{place}::{[m[1] for m in IMPL.finditer(text, 0, found.start())][-1]}"
+                clauses = re.findall(r"^ *(requires|ensures) \{ (.*) \}$", found["rest"], re.M)
+                yield crate, f"{owner}::{found['name']}", path, clauses
+
+
+def shown(clause):
+    """A clause without its marks."""
+    clause = re.sub(r"^λ (\w+)\. ", "", clause)
+    clause = re.sub(r"^⌜ (.*) ⌝$", r"\1", clause)
+    return re.sub(r"\(now \((\w+) \.(entry|exit)\)\)|now \((\w+) \.(entry|exit)\)", lambda m: f"({m[1] or m[3]} .{m[2] or m[4]})", clause)
+
+
+def main():
+    faults, out, former = [], [HEAD], None
+    count = 0
+    for crate, name, path, clauses in functions():
+        count += 1
+        kinds = [kind for kind, _ in clauses]
+        if "requires" in kinds:
+            faults.append(f"{path}: {name} has a `requires`")
+        if "ensures" not in kinds:
+            faults.append(f"{path}: {name} has no `ensures`")
+        if crate != former:
+            out.append(f"\n## {crate}\n\n")
+            former = crate
+        said = "; ".join(f"`{shown(text)}`" for kind, text in clauses if kind == "ensures")
+        out.append(f"- **{name}** ({path}): {said}\n")
+    out.append(f"\n{count} public functions.\n")
+    text = "".join(out)
+    if "--check" in sys.argv:
+        with open(LISTED) as f:
+            if f.read() != text:
+                faults.append("docs/STATEMENTS.md is not what tools/statements.py writes")
+    else:
+        sys.stdout.write(text)
+    for fault in faults:
+        print(fault, file=sys.stderr)
+    sys.exit(1 if faults else 0)
+
+
+main()
