@@ -1,6 +1,6 @@
 -- The rows of month lengths: which month and day of it a day of the year is.
 -- Assumes nothing.
-use Prim.Native.Nat.{ℕ, zero, suc, _+_, _-_, _*_, _≤_, _<_}
+use Prim.Native.Nat.{ℕ, zero, suc, _+_, _-_, _*_, _/_, _≤_, _<_}
 use mathlib.Core.Path.{_≡_, refl, ap, sym}
 use mathlib.Core.Bool.{Bool, true, false, _&&_, false≢true}
 use mathlib.Core.List.{List, [], _∷_}
@@ -118,14 +118,6 @@ place-at l m d j h i e =
     let h′ : m < length (rowOf l) = rw row-length h in
     rw (← e) (λ k. record { month = sym (month-at (rowOf l) m d h′ i) k; day = sym (day-at (rowOf l) m d h′ i) k })
 
--- what is left after eleven months is a day of December
-december : (l : Bool) (d j : ℕ) → sumTo (rowOf l) 11 + d ≡ j → j < pickN l 366 365 → d < getD (rowOf l) 11 0
-december true d j e h = omega (arith, sum-eleven true)
-december false d j e h = omega (arith, sum-eleven false)
-
-pub place-last : (l : Bool) (m d j : ℕ) → m ≡ 11 → sumTo (rowOf l) m + d ≡ j → j < pickN l 366 365 → _≡_ {A = Place} (record { month = m; day = d }) (placeOf l j)
-place-last l m d j q e h = place-at l m d j (omega arith) (rw q (december l d j (rw q at e) h)) e
-
 -- a day of a month of a row is a day of the row
 pub sum-in : (xs : List ℕ) (m d : ℕ) → m < length xs → d < getD xs m 0 → sumTo xs m + d < sumTo xs (length xs)
 unfolding sumTo
@@ -147,6 +139,16 @@ place-small l j h =
     let p = place-ok l j h in
     (rw (← row-length l) (p .month), omega (arith, p .day, row-le l (placeOf l j .month)))
 
+-- the place of a day whose month, and the days before that, are known
+pub place-by : (l : Bool) (j m s : ℕ) → j < pickN l 366 365 → m ≡ monthIn (rowOf l) j → s ≡ sumTo (rowOf l) m → (m < 12) × (s ≤ j) × _≡_ {A = Place} (record { month = m; day = j - s }) (placeOf l j)
+unfolding placeOf
+place-by l j m s h e f =
+    let p = place-ok l j h in
+    let a : m < 12 = rw e (place-small l j h .0) in
+    let q : sumTo (rowOf l) m + dayIn (rowOf l) j ≡ j = rw e (p .sum) in
+    let i : dayIn (rowOf l) j < getD (rowOf l) m 0 = rw e (p .day) in
+    (a, omega arith, place-at l m (j - s) j a (omega arith) (omega arith))
+
 -- the same of a place that a call gave
 pub small : (x : Place) (l : Bool) (j : ℕ) → x ≡ placeOf l j → j < pickN l 366 365 → (x .month < 12) × (x .day < 31)
 small x l j e h = rw e (place-small l j h)
@@ -165,6 +167,89 @@ sum-le false k = sum-le-at (rowOf false) refl k
 
 pub sum-small : (l : Bool) (k : ℕ) → k < 12 → sumTo (rowOf l) k ≤ 341
 sum-small l k h = omega (arith, sum-le l k)
+
+-- the sums before each entry of a row, as a list
+unfoldable pub sums : ℕ → List ℕ → List ℕ
+sums a [] = []
+sums a (x ∷ xs) = a ∷ sums (a + x) xs
+
+pub sums-at : (a : ℕ) (xs : List ℕ) (m : ℕ) → m < length xs → getD (sums a xs) m 0 ≡ a + sumTo xs m
+unfolding sums sumTo
+sums-at a [] m h = omega arith
+sums-at a (x ∷ xs) zero h = omega arith
+sums-at a (x ∷ xs) (suc m) h = omega (arith, sums-at (a + x) xs m (omega arith))
+
+-- ---- the month of a day of the year: 32 goes into the day as often as there are months before it, or once less
+allNear : Bool → ℕ → Bool
+allNear l zero = true
+allNear l (suc g) = ltb (32 * g + 31) (sumTo (rowOf l) (g + 2)) && allNear l g
+
+near-go : (l : Bool) (n g : ℕ) (b : Bool) → ltb g n ≡ b → g ≤ n → 32 * n + 31 < sumTo (rowOf l) (n + 2) → (g < n → 32 * g + 31 < sumTo (rowOf l) (g + 2)) → 32 * g + 31 < sumTo (rowOf l) (g + 2)
+near-go l n g true e h here below = below (ltb-true g n e)
+near-go l n g false e h here below = let q : g ≡ n = omega (arith, ltb-false g n e) in rw q here
+
+near-at : (l : Bool) (n g : ℕ) → allNear l n ≡ true → g < n → 32 * g + 31 < sumTo (rowOf l) (g + 2)
+unfolding allNear
+near-at l zero g t h = omega arith
+near-at l (suc n) g t h =
+    near-go l n g (ltb g n) refl (omega arith)
+    (ltb-true _ _ (both-left (ltb (32 * n + 31) (sumTo (rowOf l) (n + 2))) (allNear l n) t))
+    (near-at l n g (both-right (ltb (32 * n + 31) (sumTo (rowOf l) (n + 2))) (allNear l n) t))
+
+near : (l : Bool) (g : ℕ) → g < 11 → 32 * g + 31 < sumTo (rowOf l) (g + 2)
+unfolding allNear sumTo rowOf
+near true g h = near-at true 11 g refl h
+near false g h = near-at false 11 g refl h
+
+month-by : (l : Bool) (j m : ℕ) → m < 12 → sumTo (rowOf l) m ≤ j → j < sumTo (rowOf l) (m + 1) → m ≡ monthIn (rowOf l) j
+month-by l j m h a b =
+    let e : sumTo (rowOf l) m + (j - sumTo (rowOf l) m) ≡ j = omega arith in
+    let q = month-at (rowOf l) m (j - sumTo (rowOf l) m) (rw row-length h) (omega (arith, sum-more l m h)) in
+    sym (rw e at q)
+
+module _ (l : Bool) (j : ℕ) (h : j < pickN l 366 365) where
+  pub month-short : j / 32 < 11 → sumTo (rowOf l) (j / 32 + 1) ≤ j → j / 32 + 1 ≡ monthIn (rowOf l) j
+  month-short g i =
+      let n = near l (j / 32) g in
+      let e : j / 32 + 2 ≡ j / 32 + 1 + 1 = omega arith in
+      month-by l j (j / 32 + 1) (omega arith) i (let n′ = rw e at n in omega arith)
+
+  pub month-whole : j / 32 < 11 → j < sumTo (rowOf l) (j / 32 + 1) → j / 32 ≡ monthIn (rowOf l) j
+  month-whole g i = month-by l j (j / 32) (omega arith) (omega (arith, sum-le l (j / 32))) i
+
+year-ends : (l : Bool) → sumTo (rowOf l) 12 ≡ pickN l 366 365
+unfolding sumTo rowOf
+year-ends true = refl
+year-ends false = refl
+
+year-days : (l : Bool) (j : ℕ) → j < pickN l 366 365 → j < 366
+year-days true j h = h
+year-days false j h = omega arith
+
+pub month-last : (l : Bool) (j : ℕ) → j < pickN l 366 365 → 11 ≤ j / 32 → j / 32 ≡ monthIn (rowOf l) j
+month-last l j h g =
+    let q : j / 32 ≡ 11 = omega (arith, year-days l j h) in
+    month-by l j (j / 32) (omega arith) (omega (arith, sum-le l (j / 32))) (rw q (rw (year-ends l) h))
+
+-- a month has at least 28 days
+allGe : ℕ → List ℕ → Bool
+allGe b [] = true
+allGe b (x ∷ xs) = leb b x && allGe b xs
+
+all-ge : (b : ℕ) (xs : List ℕ) → allGe b xs ≡ true → (m : ℕ) → m < length xs → b ≤ getD xs m 0
+unfolding allGe
+all-ge b [] t m h = omega arith
+all-ge b (x ∷ xs) t zero h = leb-true b x (both-left (leb b x) (allGe b xs) t)
+all-ge b (x ∷ xs) t (suc m) h = all-ge b xs (both-right (leb b x) (allGe b xs) t) m (omega arith)
+
+row-ge : (l : Bool) (m : ℕ) → m < 12 → 28 ≤ getD (rowOf l) m 0
+unfolding allGe rowOf
+row-ge true m h = all-ge 28 (rowOf true) refl m h
+row-ge false m h = all-ge 28 (rowOf false) refl m h
+
+pub length-ge : (y m : ℕ) → m ≤ 12 → 28 ≤ monthLength y m
+unfolding monthLength
+length-ge y m h = row-ge (leap y) (m - 1) (omega arith)
 
 pub length-le : (y m : ℕ) → monthLength y m ≤ 31
 unfolding monthLength

@@ -14,11 +14,12 @@ use borrow.Author.Tests.{le-leb, lt-leb, leb-true, le-ltb}
 use Rattle.refusal.specs.Answer.{Answer, given, refused, need, then, BOOK}
 use Rattle.refusal.specs.Laws.{fails, after, holds}
 use Rattle.date.specs.declared.Fields.{Fields}
-use Rattle.date.specs.Civil.{yearsGone, fieldsAt, fieldsOf, weekdayOf, daysUntil}
+use Rattle.date.specs.Civil.{monthLength, dayNumber, yearsGone, fieldsAt, fieldsOf, weekdayOf, daysUntil}
 use Rattle.date.specs.Date.{inBook, makeOf, withinSpan, step, inMonth, nthWeekdayOf}
 use Rattle.date.specs.Years.{years-few}
 use Rattle.date.specs.Round.{Valid, fields-valid}
-use Rattle.date.specs.Made.{make-late}
+use Rattle.date.specs.Months.{length-le, length-ge}
+use Rattle.date.specs.Made.{make-early, make-late, make-day-0, make-ok}
 
 -- what a call gave as fields has the laws of fields
 pub valid-at : (f : Fields) (n : ℕ) → f ≡ fieldsOf n → Valid (f .year) (f .month) (f .day)
@@ -68,6 +69,26 @@ module _ (n : ℕ) where
 pub month-late : (t d : ℕ) → 28799 < t → refused BOOK ≡ inMonth t d
 unfolding inMonth
 month-late t d h = make-late _ _ _ (omega arith)
+
+-- and one before January 1800
+pub month-early : (t d : ℕ) → t < 21600 → refused BOOK ≡ inMonth t d
+unfolding inMonth
+month-early t d h = make-early _ _ _ (omega arith)
+
+pub month-day-0 : (t d : ℕ) → d < 1 → refused BOOK ≡ inMonth t d
+unfolding inMonth
+month-day-0 t d h = make-day-0 _ _ _ (omega arith)
+
+-- the day that is taken of a month of that length
+module _ (t d len k : ℕ) (l : len ≡ monthLength (t / 12) (t % 12 + 1)) (m : k ≡ min d len) where
+  pub month-day-le : k ≤ 31
+  month-day-le = omega (arith, length-le (t / 12) (t % 12 + 1))
+
+  pub month-day : 21600 ≤ t → t ≤ 28799 → 1 ≤ d → (n : ℕ) → n ≡ dayNumber (t / 12) (t % 12 + 1) k → given n ≡ inMonth t d
+  unfolding inMonth
+  month-day a b e n q =
+      let g = length-ge (t / 12) (t % 12 + 1) (omega arith) in
+      rw (← l, ← m) (make-ok _ _ _ (omega arith) (omega arith) (omega arith) (omega arith) (omega arith) (omega arith) n q)
 
 -- ---- weekdays
 pub weekday-small : (n : ℕ) → weekdayOf n ≤ 7

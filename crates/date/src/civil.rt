@@ -2,13 +2,19 @@
 ghost use mathlib.Core.Path.{_≡_};
 ghost use Prim.Native.Nat.{_<_, _≤_};
 ghost use lib.ListN.{getD};
-ghost use Rattle.date.specs.Civil.{leap, rowOf, monthLength, gone, yearsGone, sumTo, placeOf, fieldsAt, fieldsOf, dayNumber, weekdayOf, daysUntil, pickN};
+ghost use Rattle.date.specs.Civil.{leap, rowOf, monthLength, gone, yearsGone, sumTo, monthIn, placeOf, fieldsAt, fieldsOf, dayNumber, weekdayOf, daysUntil, pickN};
 use crate::Fields;
 
 // The days of the months, in a common year and in a leap year.
 const MONTHS: [[u8; 12]; 2] = [
     [31, 28, 31, 30, 31, 30, 31, 31, 30, 31, 30, 31],
     [31, 29, 31, 30, 31, 30, 31, 31, 30, 31, 30, 31],
+];
+
+// The days before each month, in a common year and in a leap year.
+const BEFORE: [[u16; 12]; 2] = [
+    [0, 31, 59, 90, 120, 151, 181, 212, 243, 273, 304, 334],
+    [0, 31, 60, 91, 121, 152, 182, 213, 244, 274, 305, 335],
 ];
 
 // A month and a day of it, both from 0.
@@ -67,11 +73,22 @@ fn days_before(leaps: bool, m: usize) -> u32
     requires { ⌜ m < 12 ⌝ }
     ensures { λ r. ⌜ r ≡ sumTo (rowOf leaps) m ⌝ }
 {
-    let mut sum: u32 = 0;
-    for k in 0..m {
-        sum += length_at(leaps, k);
+    let row = leaps as usize;
+    BEFORE[row][m] as u32
+}
+
+// The month, from 0, of a day of the year, from 0: no month is longer than 32 days, so the quotient is at most one short.
+fn month_in(leaps: bool, j: u32) -> u32
+    requires { ⌜ j < pickN leaps 366 365 ⌝ }
+    ensures { λ r. ⌜ r ≡ monthIn (rowOf leaps) j ⌝ }
+{
+    let g = j / 32;
+    if g < 11 {
+        if days_before(leaps, (g + 1) as usize) <= j {
+            return g + 1;
+        }
     }
-    sum
+    g
 }
 
 // The month and the day of it that a day of the year, from 0, is.
@@ -79,19 +96,10 @@ fn place_in(leaps: bool, j: u32) -> Place
     requires { ⌜ j < pickN leaps 366 365 ⌝ }
     ensures { λ r. ⌜ r ≡ placeOf leaps j ⌝ }
 {
-    let mut m: u32 = 0;
-    let mut left = j;
-    while m < 11 {
-        let k = length_at(leaps, m as usize);
-        if left < k {
-            break;
-        }
-        left -= k;
-        m += 1;
-    }
+    let m = month_in(leaps, j);
     Place {
         month: m,
-        day: left,
+        day: j - days_before(leaps, m as usize),
     }
 }
 

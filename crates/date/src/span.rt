@@ -33,9 +33,17 @@ pub fn in_month(t: u64, day: u32) -> Dated
     if 28799 < t {
         return Dated::Refused(refusal::BOOK);
     }
+    if t < 21600 {
+        return Dated::Refused(refusal::BOOK);
+    }
+    if day < 1 {
+        return Dated::Refused(refusal::BOOK);
+    }
     let year = (t / 12) as u32;
     let month = (t % 12) as u32 + 1;
-    Date::make(year, month, least(day, civil::month_length(year, month)))
+    Dated::Day(Date {
+        day: civil::day_number(year, month, least(day, civil::month_length(year, month))),
+    })
 }
 
 pub fn last_of_month(n: u32) -> Dated

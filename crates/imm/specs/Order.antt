@@ -5,9 +5,9 @@ use mathlib.Core.Path.{_≡_, refl}
 use mathlib.Core.Bool.{Bool, true, false, false≢true, _&&_}
 use mathlib.Core.List.{List, [], _∷_}
 use native.Mathlib.Omega.{arith}
-use lib.Dec.{leb, ltb}
+use lib.Dec.{ltb}
 use lib.ListN.{getD, length}
-use borrow.Author.Tests.{leb-true, ltb-true, ltb-false}
+use borrow.Author.Tests.{ltb-true, ltb-false}
 use Rattle.refusal.specs.Answer.{Answer, given, refused, then}
 use Rattle.date.specs.Civil.{leap, rowOf, gone, sumTo, dayNumber, monthLength, fieldsOf, fieldsAt, guess, yearsGone, placeOf}
 use Rattle.date.specs.Date.{inBook, monthIndex}
@@ -38,26 +38,6 @@ sum-later [] k j h i = omega arith
 sum-later (l ∷ ls) k zero h i = omega arith
 sum-later (l ∷ ls) zero (suc j) h i = omega arith
 sum-later (l ∷ ls) (suc k) (suc j) h i = omega (arith, sum-later ls k j (omega arith) (omega arith))
-
-allGe : ℕ → List ℕ → Bool
-allGe b [] = true
-allGe b (x ∷ xs) = leb b x && allGe b xs
-
-all-ge : (b : ℕ) (xs : List ℕ) → allGe b xs ≡ true → (m : ℕ) → m < length xs → b ≤ getD xs m 0
-unfolding allGe
-all-ge b [] t m h = omega arith
-all-ge b (x ∷ xs) t zero h = leb-true b x (both-0 (leb b x) (allGe b xs) t)
-all-ge b (x ∷ xs) t (suc m) h = all-ge b xs (both-1 (leb b x) (allGe b xs) t) m (omega arith)
-
-row-ge : (l : Bool) (m : ℕ) → m < 12 → 28 ≤ getD (rowOf l) m 0
-unfolding allGe rowOf
-row-ge true m h = all-ge 28 (rowOf true) refl m h
-row-ge false m h = all-ge 28 (rowOf false) refl m h
-
--- no month has fewer than 28 days
-pub length-ge : (y m : ℕ) → 1 ≤ m → m ≤ 12 → 28 ≤ monthLength y m
-unfolding monthLength
-length-ge y m a b = row-ge (leap y) (m - 1) (omega arith)
 
 -- ---- days of a later month
 later-year : (y m d y′ m′ d′ : ℕ) → Valid y m d → Valid y′ m′ d′ → y < y′ → dayNumber y m d < dayNumber y′ m′ d′

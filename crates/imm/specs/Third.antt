@@ -14,7 +14,8 @@ use Rattle.date.specs.Round.{Valid, fields-of-day, day-of-fields}
 use Rattle.date.specs.Made.{make-ok, made}
 use Rattle.date.specs.Moves.{nth-of, until-at}
 use Rattle.imm.specs.Imm.{inCycle, isImm, thirdWednesday}
-use Rattle.imm.specs.Order.{then-gives, both-0, both-1, length-ge}
+use Rattle.date.specs.Months.{length-ge}
+use Rattle.imm.specs.Order.{then-gives, both-0, both-1}
 
 -- ---- the parts of the test
 pub record Imm (main : Bool) (n : ℕ) : Type 0 where
@@ -61,7 +62,7 @@ third-days y m = (omega arith, omega (arith, until-at (daysUntil (dayNumber y m 
 
 pub third-valid : (y m : ℕ) → 1 ≤ y → 1 ≤ m → m ≤ 12 → Valid y m (thirdDay y m)
 third-valid y m a b e =
-    record { year = a; month = b; twelve = e; first = omega (arith, third-days y m .0); last = omega (arith, third-days y m .1, length-ge y m b e) }
+    record { year = a; month = b; twelve = e; first = omega (arith, third-days y m .0); last = omega (arith, third-days y m .1, length-ge y m e) }
 
 pub third-fields : (y m : ℕ) → 1 ≤ y → 1 ≤ m → m ≤ 12 → fieldsOf (third y m) ≡ record { year = y; month = m; day = thirdDay y m }
 unfolding third
@@ -109,7 +110,7 @@ pub third-given : (y m : ℕ) → 1800 ≤ y → y ≤ 2399 → 1 ≤ m → m �
 unfolding third thirdDay
 third-given y m a b e f =
     let v = third-valid y m (omega arith) e f in
-    let l = length-ge y m e f in
+    let l = length-ge y m f in
     nth-of 3 3 m y (omega arith) (omega arith) (omega arith) (omega arith) _
     (then-given (makeOf y m 1) (dayNumber y m 1) _ _ (sym (make-ok y m 1 a b e f (omega arith) (omega arith) _ refl))
     (make-ok y m (1 + daysUntil (dayNumber y m 1) 3 + 7 * 2) a b e f (v .first) (v .last) _ refl))

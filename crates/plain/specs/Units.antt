@@ -17,7 +17,8 @@ use Rattle.date.specs.Round.{fields-valid, day-of-fields}
 use Rattle.date.specs.Made.{make-ok, made, made-within}
 use Rattle.date.specs.Moves.{span-in, book-from, book-le}
 use Rattle.date.specs.Order.{month-day-kept, more-months-earlier}
-use Rattle.imm.specs.Order.{length-ge, month-le, book-years}
+use Rattle.date.specs.Months.{length-ge}
+use Rattle.imm.specs.Order.{month-le, book-years}
 use Rattle.plain.specs.Turns.{InSpan}
 use Rattle.plain.specs.Falling.{dayOr}
 use Rattle.plain.specs.Count.{Line}
@@ -54,7 +55,7 @@ month-of s d n h = rw (month-day-kept s d n h) (omega arith)
 month-there : (s d : ℕ) → 1 ≤ d → 21600 ≤ s → s ≤ 28799 → inMonth s d ≡ given (dayNumber (s / 12) (s % 12 + 1) (min d (monthLength (s / 12) (s % 12 + 1))))
 unfolding inMonth
 month-there s d p a b =
-    let g = length-ge (s / 12) (s % 12 + 1) (omega arith) (omega arith) in
+    let g = length-ge (s / 12) (s % 12 + 1) (omega arith) in
     sym (make-ok (s / 12) (s % 12 + 1) (min d (monthLength (s / 12) (s % 12 + 1))) (omega arith) (omega arith) (omega arith) (omega arith) (omega arith) (omega arith) _ refl)
 
 -- no month taken is no step

@@ -1,54 +1,55 @@
 use Rattle.date.specs.Civil.{rowOf, sumTo}
-use Rattle.date.specs.Months.{row-le, sum-more, sum-none}
-use Prim.Native.Nat.{_≤_, _-_, _*_}
-use mathlib.Core.Path.{_≡_, sym, ap, _∙_}
+use Rattle.date.specs.Months.{sums, sums-at, sum-small, row-length}
+use Rattle.date.proofs.Rows.{flag-fits, flag-below}
+use Prim.Native.Nat.{ℕ, _≤_, _<_}
+use mathlib.Core.Path.{_≡_, refl}
+use mathlib.Core.Bool.{Bool, true, false}
+use mathlib.Core.List.{List, [], _∷_}
 use native.Mathlib.Omega.{arith}
+use lib.ListN.{getD, length}
+use mir.Syntax.{w32}
+use mir.Val.{Fits, boolByte}
+use borrow.Author.Needs.{needs}
 use Rattle.date.proofs.civil.days_before.Statement.{statement}
 use Rattle.date.proofs.civil.days_before.Tie as tie
 use Rattle.date.proofs.civil.days_before.Reads as reads
 use Rattle.date.proofs.civil.days_before.Lts as lts
-use Rattle.date.proofs.civil.length_at.Reads as length-at-reads
 
-abbrev Inv-loop : tie.InvT-loop
-Inv-loop l m sum₀ k₀ sum k = (k ≤ m) × (sum ≡ sumTo (rowOf l) k) × (sum ≤ 31 * k)
+sum-entry : (l : Bool) (m : ℕ) → m < 12 → getD (sums 0 (rowOf l)) m 0 ≡ sumTo (rowOf l) m
+sum-entry l m h = omega (arith, sums-at 0 (rowOf l) m (rw row-length h))
 
-abbrev μ-loop : tie.MeasureT-loop
-μ-loop l m sum₀ k₀ sum k = m - k
+-- the table as the code has it: the flag's byte picks the row
+entry : (l : Bool) (m : ℕ) → m < 12 → getD (getD (sums 0 (rowOf false) ∷ sums 0 (rowOf true) ∷ []) (boolByte l) []) m 0 ≡ sumTo (rowOf l) m
+entry true m h = sum-entry true m h
+entry false m h = sum-entry false m h
 
-loop-holds : tie.Need-loop-holds Inv-loop μ-loop
-loop-holds c = (omega arith, sym (sum-none (c .args .leaps)), omega arith)
+cast-row : tie.Need-cast-row
+cast-row c = search needs
 
-length-at-requires : tie.Need-length-at-requires Inv-loop μ-loop
-length-at-requires c κs = tt
+mul-result : tie.Need-mul-result
+mul-result c = flag-fits 24 (omega arith) (c .args .leaps)
 
-add-sum : tie.Need-add-sum Inv-loop μ-loop
-add-sum c = omega (arith, row-le (c .before .before .before .args .leaps) (c .before .before .loop .k))
+mul-result-2 : tie.Need-mul-result-2
+mul-result-2 c = search needs
 
-add-k : tie.Need-add-k Inv-loop μ-loop
-add-k c = omega arith
+index-1-result : tie.Need-index-1-result
+index-1-result c = flag-below (c .args .leaps)
 
-loop-less : tie.Need-loop-less Inv-loop μ-loop
-loop-less c = omega arith
+index-2-result : tie.Need-index-2-result
+index-2-result c = search needs
 
-loop-again : tie.Need-loop-again Inv-loop μ-loop
-loop-again c =
-    let l = c .before .before .before .args .leaps in
-    let k = c .before .before .loop .k in
-    (omega arith, omega (arith, sum-more l k (omega arith)), omega (arith, row-le l k))
+cast-result : tie.Need-cast-result
+unfolding rowOf sums
+cast-result c =
+    let l = c .before .args .leaps in
+    let m = c .before .args .m in
+    record { fits = omega (arith, entry l m (omega arith), sum-small l m (omega arith)) }
 
-returns : tie.Need-returns Inv-loop μ-loop
-returns c = c .before .loop .inv .1 ∙ ap (sumTo (rowOf (c .before .before .args .leaps))) (omega arith)
+returns : tie.Need-returns
+unfolding rowOf sums
+returns c = entry (c .before .args .leaps) (c .before .args .m) (omega arith)
 
 pub days-before-spec : {M : Type 1} → statement M
 days-before-spec =
     tie.close
-    (tie.spec
-    Inv-loop
-    μ-loop
-    loop-holds
-    length-at-requires
-    add-sum
-    add-k
-    loop-less
-    loop-again
-    returns)
+    (tie.spec cast-row mul-result mul-result-2 index-1-result index-2-result cast-result returns)

@@ -1,15 +1,14 @@
 use Rattle.date.specs.Civil.{rowOf}
 use Rattle.date.specs.Months.{row-le, row-past}
-use Prim.Native.Nat.{ℕ, _*_, _<_}
+use Rattle.date.proofs.Rows.{flag-fits, flag-below}
+use Prim.Native.Nat.{ℕ}
 use mathlib.Core.Path.{_≡_, refl, sym}
 use mathlib.Core.Bool.{Bool, true, false}
 use mathlib.Core.List.{List, [], _∷_}
 use native.Mathlib.Omega.{arith}
-use lib.Dec.{lit<}
 use lib.ListN.{getD}
-use mir.Syntax.{w32, w64}
+use mir.Syntax.{w32}
 use mir.Val.{Fits, boolByte}
-use mir.Facts.{fits-lit}
 use borrow.Author.Needs.{needs}
 use Rattle.date.proofs.civil.length_at.Statement.{statement}
 use Rattle.date.proofs.civil.length_at.Tie as tie
@@ -27,19 +26,11 @@ unfolding rowOf
 entry-fits true m = omega (arith, row-le true m)
 entry-fits false m = omega (arith, row-le false m)
 
-flag-fits : (l : Bool) → Fits w64 (boolByte l * 12)
-flag-fits true = fits-lit tt
-flag-fits false = fits-lit tt
-
-flag-below : (l : Bool) → boolByte l < 2
-flag-below true = lit< tt
-flag-below false = lit< tt
-
 cast-row : tie.Need-cast-row
 cast-row c = search needs
 
 mul-result : tie.Need-mul-result
-mul-result c = flag-fits (c .before .args .leaps)
+mul-result c = flag-fits 12 (omega arith) (c .before .args .leaps)
 
 index-1-result : tie.Need-index-1-result
 index-1-result c = flag-below (c .before .args .leaps)
