@@ -3,13 +3,16 @@
 use Prim.Native.Nat.{ℕ}
 use mathlib.Core.Path.{_≡_, refl, sym, _∙_}
 use mathlib.Core.Bool.{Bool, true, false}
-use mathlib.Core.List.{List}
+use mathlib.Core.List.{List, [], _∷_}
+use native.Mathlib.Omega.{arith}
+use lib.ListN.{length}
 use borrow.Author.Tests.{eq-eqb}
 use Rattle.refusal.specs.Answer.{Answer, given, refused, need, then, BOOK}
 use Rattle.date.specs.Date.{withinSpan, monthIndex}
 use Rattle.calendar.specs.declared.Convention.{Convention}
 use Rattle.calendar.specs.declared.Convention.the-variants.{Unadjusted, Following, ModifiedFollowing, Preceding, ModifiedPreceding}
-use Rattle.calendar.specs.Open.{isOpen}
+use Rattle.calendar.specs.Open.{member, isOpen}
+use Rattle.calendar.specs.Mask.{no-weekday}
 use Rattle.calendar.specs.Adjust.{inSpan, found, sameMonth, unlessLeft, modified, byConvention, adjusted}
 use Rattle.calendar.specs.Search.{turn-open, span-need, span-given}
 
@@ -39,3 +42,13 @@ module _ (mask : ℕ) (closed : List ℕ) (day : ℕ) (open-day : isOpen mask cl
   pub open-stays : (convention : Convention) → adjusted mask closed convention day ≡ withinSpan day
   unfolding adjusted
   open-stays convention = by-span (inSpan day) refl convention ∙ sym (span-need day)
+
+never-closed : (mask day : ℕ) → mask ≡ 0 → isOpen mask [] day ≡ true
+unfolding isOpen member
+never-closed mask day e = rw (e, no-weekday day) refl
+
+-- where no day is closed every convention does the same
+pub all-same : (mask : ℕ) (closed : List ℕ) → mask ≡ 0 → length closed ≡ 0 → (a b : Convention) → adjusted mask closed a ≡ adjusted mask closed b
+all-same mask (x ∷ xs) e h a b = let bad : ⊥ = omega arith in absurd bad
+all-same mask [] e h a b =
+    λ i day. (open-stays mask [] day (never-closed mask day e) a ∙ sym (open-stays mask [] day (never-closed mask day e) b)) i

@@ -18,6 +18,21 @@ week-on mask day = ap (λ (k : ℕ). eqb (mask / 2 ^ k % 2) 1) (same day)
     same : (d : ℕ) → (d + 7 + 6) % 7 ≡ (d + 6) % 7
     same d = omega arith
 
+-- an empty mask closes no weekday
+no-bit : (w : ℕ) → w < 7 → eqb (0 / 2 ^ w % 2) 1 ≡ false
+no-bit zero h = refl
+no-bit (suc zero) h = refl
+no-bit (suc (suc zero)) h = refl
+no-bit (suc (suc (suc zero))) h = refl
+no-bit (suc (suc (suc (suc zero)))) h = refl
+no-bit (suc (suc (suc (suc (suc zero))))) h = refl
+no-bit (suc (suc (suc (suc (suc (suc zero)))))) h = refl
+no-bit (suc (suc (suc (suc (suc (suc (suc w))))))) h = let bad : ⊥ = omega arith in absurd bad
+
+pub no-weekday : (day : ℕ) → weeklyClosed 0 day ≡ false
+unfolding weeklyClosed
+no-weekday day = no-bit ((day + 6) % 7) (omega arith)
+
 -- the seven days of the first week, Monday to Sunday
 unfoldable pub allSeven : ℕ → Bool
 allSeven mask =

@@ -3,27 +3,23 @@ ghost use mathlib.Core.Path.{_≡_};
 ghost use Rattle.calendar.specs.Open.{closedOk};
 ghost use Rattle.calendar.specs.Places.{LowerBound};
 
-// Whether the list keeps its rule: one pass.
+// Whether the list keeps its rule: one pass, without a branch for each date.
 pub(crate) fn keep_rule(closed: &[u32]) -> bool
     ensures { λ r. ⌜ r ≡ closedOk (now (closed .entry)) ⌝ }
 {
     if 4096 < closed.len() {
         return false;
     }
-    let mut low: u32 = 657072;
+    let mut low: u32 = 657071;
+    let mut keeps = true;
     let mut i = 0;
     while i < closed.len() {
         let x = closed[i];
-        if x < low {
-            return false;
-        }
-        if 876217 <= x {
-            return false;
-        }
-        low = x + 1;
+        keeps = keeps & (low < x) & (x < 876217);
+        low = x;
         i += 1;
     }
-    true
+    keeps
 }
 
 // The first place whose date is at least x, or the length.

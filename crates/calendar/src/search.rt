@@ -213,6 +213,18 @@ pub fn adjust(day: u32, convention: Convention, mask: u8, closed: &[u32]) -> Dat
     }
 }
 
+// The convention, or none where no day is closed, which comes to the same and needs no look at the calendar.
+pub fn convention_on(convention: Convention, mask: u8, closed: &[u32]) -> Convention
+    ensures { λ r. ⌜ adjusted mask (now (closed .entry)) r ≡ adjusted mask (now (closed .entry)) convention ⌝ }
+{
+    if mask == 0 {
+        if closed.len() == 0 {
+            return Convention::Unadjusted;
+        }
+    }
+    convention
+}
+
 fn toward(day: u32, back: bool, mask: u8, closed: &[u32]) -> Dated
     ensures { λ r. ⌜ (closedOk (now (closed .entry)) ≡ true → dated r ≡ adjusted mask (now (closed .entry)) (towards back) day) ⌝ }
 {
@@ -302,7 +314,7 @@ fn add_weeks(
 {
     let moved = span::shift_by(day, back, size, Unit::Weeks);
     match moved {
-        Dated::Day(to) => adjust(to.day, convention, mask, closed),
+        Dated::Day(to) => searched(to.day, convention, mask, closed),
         Dated::Refused(n) => Dated::Refused(n),
     }
 }
@@ -312,7 +324,7 @@ fn land(moved: u32, convention: Convention, end: Decided, mask: u8, closed: &[u3
 {
     match end {
         Decided::Yes => last_open(moved, mask, closed),
-        Decided::No => adjust(moved, convention, mask, closed),
+        Decided::No => searched(moved, convention, mask, closed),
         Decided::Refused(n) => Dated::Refused(n),
     }
 }

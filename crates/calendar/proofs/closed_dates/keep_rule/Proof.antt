@@ -7,10 +7,10 @@ use Rattle.calendar.proofs.closed_dates.keep_rule.Statement.{statement}
 use Rattle.calendar.proofs.closed_dates.keep_rule.Tie as tie
 
 abbrev Inv-loop : tie.InvT-loop
-Inv-loop closed low₀ i₀ low i = Kept closed low i
+Inv-loop closed low₀ keeps₀ i₀ low keeps i = Kept closed low keeps i
 
 abbrev μ-loop : tie.MeasureT-loop
-μ-loop closed low₀ i₀ low i = length closed - i
+μ-loop closed low₀ keeps₀ i₀ low keeps i = length closed - i
 
 returns : tie.Need-returns Inv-loop μ-loop
 returns c = search checks
@@ -24,15 +24,6 @@ mul-x c = search checks
 shared-slice-read-x : tie.Need-shared-slice-read-x Inv-loop μ-loop
 shared-slice-read-x c = search checks
 
-returns-2 : tie.Need-returns-2 Inv-loop μ-loop
-returns-2 c = search checks
-
-returns-3 : tie.Need-returns-3 Inv-loop μ-loop
-returns-3 c = search checks
-
-add-low : tie.Need-add-low Inv-loop μ-loop
-add-low c = search checks
-
 add-i : tie.Need-add-i Inv-loop μ-loop
 add-i c = search checks
 
@@ -42,8 +33,8 @@ loop-less c = search checks
 loop-again : tie.Need-loop-again Inv-loop μ-loop
 loop-again c = search checks
 
-returns-4 : tie.Need-returns-4 Inv-loop μ-loop
-returns-4 c = search checks
+returns-2 : tie.Need-returns-2 Inv-loop μ-loop
+returns-2 c = search checks
 
 pub keep-rule-spec : {M : Type 1} → statement M
 keep-rule-spec =
@@ -55,10 +46,7 @@ keep-rule-spec =
     loop-holds
     mul-x
     shared-slice-read-x
-    returns-2
-    returns-3
-    add-low
     add-i
     loop-less
     loop-again
-    returns-4)
+    returns-2)

@@ -14,8 +14,8 @@ shift-by-requires c κs = search needs
 enum-known-moved : tie.Need-enum-known-moved
 enum-known-moved c = search needs
 
-adjust-requires : tie.Need-adjust-requires
-adjust-requires c κs = search needs
+searched-requires : tie.Need-searched-requires
+searched-requires c κs = search needs
 
 enum-known-moved-2 : tie.Need-enum-known-moved-2
 enum-known-moved-2 c = search needs
@@ -25,7 +25,7 @@ unfolding addWeeks
 returns c =
     let moved = c .before .before .before .before .shift-by in
     let to = c .before .before .moved .given .0 .0 in
-    λ ok. then-given _ (to .day) _ _ (given-day (moved .result) to _ (moved .ensures) (cc)) (c .adjust .ensures ok)
+    λ ok. then-given _ (to .day) _ _ (given-day (moved .result) to _ (moved .ensures) (cc)) (c .searched .ensures ok)
 
 returns-2 : tie.Need-returns-2
 unfolding dated addWeeks
@@ -40,7 +40,7 @@ add-weeks-spec =
     (tie.spec
     shift-by-requires
     enum-known-moved
-    adjust-requires
+    searched-requires
     enum-known-moved-2
     returns
     returns-2)

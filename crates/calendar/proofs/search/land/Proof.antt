@@ -17,8 +17,8 @@ last-open-requires c κs = search needs
 enum-told-2 : tie.Need-enum-told-2
 enum-told-2 c = search needs
 
-adjust-requires : tie.Need-adjust-requires
-adjust-requires c κs = search needs
+searched-requires : tie.Need-searched-requires
+searched-requires c κs = search needs
 
 enum-known-end : tie.Need-enum-known-end
 enum-known-end c = search needs
@@ -29,7 +29,7 @@ returns c = λ ok. rw (c .before .enum-told .given .1) (c .last-open .ensures ok
 
 returns-2 : tie.Need-returns-2
 unfolding decided then landed
-returns-2 c = λ ok. rw (c .before .enum-told2 .given .1) (c .adjust .ensures ok)
+returns-2 c = λ ok. rw (c .before .enum-told2 .given .1) (c .searched .ensures ok)
 
 returns-3 : tie.Need-returns-3
 unfolding dated decided then
@@ -42,7 +42,7 @@ land-spec =
     enum-told
     last-open-requires
     enum-told-2
-    adjust-requires
+    searched-requires
     enum-known-end
     returns
     returns-2
