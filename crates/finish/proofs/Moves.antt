@@ -16,9 +16,11 @@ use Rattle.date.specs.declared.Dated.{Dated}
 use Rattle.date.specs.declared.Dated.the-variants as dated-is
 use Rattle.date.specs.Date.{dated}
 use Rattle.date.specs.Made.{given-day, refused-day}
+use Rattle.calendar.specs.declared.Convention.{Convention}
 use Rattle.calendar.specs.declared.Decided.{Decided}
 use Rattle.calendar.specs.declared.Decided.the-variants as decided-is
 use Rattle.calendar.specs.Open.{closedOk}
+use Rattle.calendar.specs.Adjust.{adjusted}
 use Rattle.calendar.specs.Calendar.{decided}
 use Rattle.steps.specs.declared.Move.{Move}
 use Rattle.steps.specs.declared.Move.the-variants.{ThirdWednesdays}
@@ -150,6 +152,11 @@ module _ {A : Type 0} (f : List ℕ → Answer A) (o : Answer (List ℕ)) (r : D
   done-on x e h = rw (← p, e) h
 
 -- ---- the adjustments
+-- two conventions that adjust every day alike move it alike
+move-alike : (mask : ℕ) (closed : List ℕ) (a b : Convention) → adjusted mask closed a ≡ adjusted mask closed b → moved mask closed (middleMove false a) ≡ moved mask closed (middleMove false b)
+unfolding moved middleMove
+move-alike mask closed a b e = λ i day. e i day
+
 module _ (q : Request) (closed : List ℕ) (seed : ℕ) (ds : List ℕ) where
   module _ (end : Decided) (p : closedOk closed ≡ true → decided end ≡ seedAtEnd (q .monthend) (q .mask) closed seed) (ok : closedOk closed ≡ true) where
     pub seed-refused : (n : ℕ) → end ≡ decided-is.Refused n → done (Refused n) ds ≡ middleAdjusted q closed seed ds
@@ -161,9 +168,11 @@ module _ (q : Request) (closed : List ℕ) (seed : ℕ) (ds : List ℕ) where
       unfolding middleAdjusted decided then
       seed-at-end e w = rw (← p ok, e, ← w) (m ok)
 
-      pub seed-within : end ≡ decided-is.No → what ≡ middleMove false (q .convention) → done r ds′ ≡ middleAdjusted q closed seed ds
+      pub seed-within : (way : Convention) → adjusted (q .mask) closed way ≡ adjusted (q .mask) closed (q .convention) → end ≡ decided-is.No → what ≡ middleMove false way → done r ds′ ≡ middleAdjusted q closed seed ds
       unfolding middleAdjusted decided then
-      seed-within e w = rw (← p ok, e, ← w) (m ok)
+      seed-within way a e w =
+          rw (← p ok, e)
+          (rw w at (m ok) ∙ ap (λ (f : ℕ → Answer ℕ). onMiddle f ds) (move-alike (q .mask) closed way (q .convention) a))
 
   module _ (ok : closedOk closed ≡ true) (what : Move) (r : Done) (ds₁ : List ℕ) where
     module _ (w : what ≡ lastMove q) (p : closedOk closed ≡ true → done r ds₁ ≡ onLast (moved (q .mask) closed what) ds) where

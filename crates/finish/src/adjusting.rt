@@ -9,6 +9,7 @@ ghost use Rattle.finish.specs.Moving.{done, middleAdjusted, lastAdjusted
 use crate::moving;
 use crate::moving::Done;
 use calendar::Decided;
+use calendar::search;
 use steps::Move;
 use steps::Request;
 use steps::Rule;
@@ -70,7 +71,10 @@ fn adjust_middle(q: Request, closed: &[u32], seed: u32, dates: &mut [u32]) -> Do
     let end = seeds::seed_at_end(q.monthend, seed, q.mask, closed);
     match end {
         Decided::Yes => move_middle(dates, moves::middle_move(true, convention), q.mask, closed),
-        Decided::No => move_middle(dates, moves::middle_move(false, convention), q.mask, closed),
+        Decided::No => {
+            let way = search::convention_on(convention, q.mask, closed);
+            move_middle(dates, moves::middle_move(false, way), q.mask, closed)
+        }
         Decided::Refused(n) => Done::Refused(n),
     }
 }

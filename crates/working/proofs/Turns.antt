@@ -41,34 +41,31 @@ pub front-from : (mask : ℕ) (closed : List ℕ) (convention : Convention) (day
 front-from mask closed convention day a e = record { known = λ h. e }
 
 -- ---- a candidate that is not past
-module _ (mask : ℕ) (closed : List ℕ) (convention : Convention) (newest day : ℕ) (held : Dated) (p : dated held ≡ adjusted mask closed convention newest) where
-  pub compare-stop : (n : ℕ) → held ≡ Refused n → Compared mask closed convention newest (unlessPast false mask closed convention newest day) (Stop n)
+module _ (mask : ℕ) (closed : List ℕ) (convention : Convention) (newest day : ℕ) where
+  pub compare-stop : (found : Dated) → dated found ≡ adjusted mask closed convention newest → (n : ℕ) → found ≡ Refused n → Compared mask closed convention newest (unlessPast false mask closed convention newest day) (Stop n)
   unfolding unlessPast told Learnt
-  compare-stop n e = record { says = then-refused _ n _ (refused-day held n _ p e); learnt = tt }
+  compare-stop found p n e = record { says = then-refused _ n _ (refused-day found n _ p e); learnt = tt }
 
-  module _ (a : Date) (q : held ≡ Day a) (moved : Dated) (s : dated moved ≡ adjusted mask closed convention day) where
+  module _ (held : ℕ) (known : adjusted mask closed convention newest ≡ given held) (moved : Dated) (s : dated moved ≡ adjusted mask closed convention day) where
     pub compare-closed : (n : ℕ) → moved ≡ Refused n → Compared mask closed convention newest (unlessPast false mask closed convention newest day) (Stop n)
     unfolding unlessPast told Learnt
     compare-closed n e =
-        record {
-          says = then-given _ (a .day) _ _ (given-day held a _ p q) (then-refused _ n _ (refused-day moved n _ s e));
-          learnt = tt;
-        }
+        record { says = then-given _ held _ _ known (then-refused _ n _ (refused-day moved n _ s e)); learnt = tt }
 
     module _ (b : Date) (t : moved ≡ Day b) where
-      pub compare-skip : a .day ≡ b .day → Compared mask closed convention newest (unlessPast false mask closed convention newest day) (Skip (a .day))
+      pub compare-skip : held ≡ b .day → Compared mask closed convention newest (unlessPast false mask closed convention newest day) (Skip held)
       unfolding unlessPast told Learnt unlessSame
       compare-skip e =
           record {
-            says = then-given _ (a .day) _ _ (given-day held a _ p q) (then-given _ (b .day) _ _ (given-day moved b _ s t) (rw (eq-eqb (a .day) (b .day) e) refl));
-            learnt = front-from mask closed convention newest (a .day) (given-day held a _ p q);
+            says = then-given _ held _ _ known (then-given _ (b .day) _ _ (given-day moved b _ s t) (rw (eq-eqb held (b .day) e) refl));
+            learnt = front-from mask closed convention newest held known;
           }
 
-      pub compare-keep : (a .day ≡ b .day → ⊥) → Compared mask closed convention newest (unlessPast false mask closed convention newest day) (Keep day (b .day))
+      pub compare-keep : (held ≡ b .day → ⊥) → Compared mask closed convention newest (unlessPast false mask closed convention newest day) (Keep day (b .day))
       unfolding unlessPast told Learnt unlessSame
       compare-keep e =
           record {
-            says = then-given _ (a .day) _ _ (given-day held a _ p q) (then-given _ (b .day) _ _ (given-day moved b _ s t) (rw (ne-eqb (a .day) (b .day) e) refl));
+            says = then-given _ held _ _ known (then-given _ (b .day) _ _ (given-day moved b _ s t) (rw (ne-eqb held (b .day) e) refl));
             learnt = front-from mask closed convention day (b .day) (given-day moved b _ s t);
           }
 

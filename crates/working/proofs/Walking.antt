@@ -1,24 +1,27 @@
 -- The invariant of the loop over the candidates, and a law for each way through a turn of it.
 -- Assumes nothing.
-use mathlib.Core.Path.{_≡_, refl, _∙_}
-use mathlib.Core.Bool.{Bool, true}
+use mathlib.Core.Path.{_≡_, refl, sym, ap, _∙_}
+use mathlib.Core.Bool.{Bool, true, false}
 use mathlib.Core.List.{List}
 use Prim.Native.Nat.{ℕ, suc, _+_, _-_, _≤_, _<_}
 use native.Mathlib.Numerals.{add-one}
 use native.Mathlib.Omega.{arith}
 use lib.ListN.{length}
-use Rattle.refusal.specs.Answer.{Answer, refused, then, BOOK}
+use lib.Dec.{eqb}
+use Rattle.refusal.specs.Answer.{Answer, given, refused, then, BOOK}
 use Rattle.calendar.specs.declared.Convention.{Convention}
 use Rattle.calendar.specs.Open.{closedOk}
+use Rattle.calendar.specs.Adjust.{adjusted}
 use Rattle.steps.specs.declared.Pace.{Pace}
 use Rattle.steps.specs.declared.Seed.{Seed}
 use Rattle.steps.specs.Candidates as steps
-use Rattle.steps.specs.Candidates.{turnOf}
-use Rattle.steps.specs.Generate.{Walk, newest, put, onTurn, walk}
+use Rattle.steps.specs.Candidates.{candidate, isPast, unlessSame, unlessPast, turnOf}
+use Rattle.steps.specs.Generate.{Lists, Walk, newest, put, onTurn, walk}
 use Rattle.working.specs.declared.Filled.{Filled}
 use Rattle.working.specs.declared.Filled.the-variants as filled-is
 use Rattle.working.specs.declared.candidates.Turn.{Turn}
 use Rattle.working.specs.declared.candidates.Turn.the-variants.{Past, Skip, Keep, Stop}
+use Rattle.working.specs.declared.walks.Walked.{Walked}
 use Rattle.working.specs.declared.walks.Walked.the-variants.{Ready, Refused}
 use Rattle.working.specs.Part.{Part, Begun, held, filled, Placed, Filling}
 use Rattle.working.specs.Turning.{Front, told, Learnt, Compared, walked, Stands, Walking}
@@ -100,6 +103,9 @@ module _ {mask : ℕ} {closed : List ℕ} {convention : Convention} {back : Bool
         unfolding filled
         put-newest m q = put-is-newest room d 1 (held back n work marks) (held back m work′ marks′) (rw q at (p .says))
 
+        pub walk-newest : (m : ℕ) → f ≡ filled-is.Ready m → d ≡ newest (held back m work′ work′)
+        walk-newest m q = sym (newest-alone back m work′ marks′ ∙ put-newest m q)
+
         pub walk-keep : (m : ℕ) → f ≡ filled-is.Ready m → Going mask closed convention back pace seed exit room o work′ marks′ m (k + 1) b
         unfolding filled Placed then Learnt
         walk-keep m q =
@@ -111,3 +117,31 @@ module _ {mask : ℕ} {closed : List ℕ} {convention : Convention} {back : Bool
               front-known = rw (put-newest m q) (rw e at l);
               same = rw (add-one k) (rw q at kept);
             }
+
+-- ---- two conventions that adjust every day alike walk alike
+module _ (mask : ℕ) (closed : List ℕ) (a b : Convention) (e : adjusted mask closed a ≡ adjusted mask closed b) where
+  past-alike : (t : Bool) (last day : ℕ) → unlessPast t mask closed a last day ≡ unlessPast t mask closed b last day
+  unfolding unlessPast
+  past-alike true last day = refl
+  past-alike false last day =
+      ap (λ (f : ℕ → Answer ℕ). then (f last) (λ x. then (f day) (λ y. given (unlessSame (eqb x y) day)))) e
+
+  turn-alike : (back : Bool) (pace : Pace) (seed : Seed) (exit : ℕ) → turnOf mask closed a back pace seed exit ≡ turnOf mask closed b back pace seed exit
+  unfolding turnOf
+  turn-alike back pace seed exit =
+      λ i last k. then (candidate back pace seed k) (λ day. past-alike (isPast back exit day) last day i)
+
+  front-alike : (front day : ℕ) → Front mask closed a front day → Front mask closed b front day
+  front-alike front day f = record { known = λ h. ap (λ (g : ℕ → Answer ℕ). g day) (sym e) ∙ f .known h }
+
+  stands-alike : (back : Bool) (room : ℕ) (r : Walked) (work marks : List ℕ) → Stands mask closed a back room r work marks → Stands mask closed b back room r work marks
+  unfolding Stands
+  stands-alike back room (Ready n tries front) work marks s = (s .0, s .1, front-alike front _ (s .2))
+  stands-alike back room (Refused k) work marks s = tt
+
+  pub walk-alike : (back : Bool) (pace : Pace) (seed : Seed) (exit room fuel k : ℕ) (l : Lists) (r : Walked) (work marks : List ℕ) → Walking mask closed a back room (walk (turnOf mask closed a back pace seed exit) room fuel k l) r work marks → Walking mask closed b back room (walk (turnOf mask closed b back pace seed exit) room fuel k l) r work marks
+  walk-alike back pace seed exit room fuel k l r work marks w =
+      record {
+        says = w .says ∙ ap (λ (f : ℕ → ℕ → Answer steps.Turn). walk f room fuel k l) (turn-alike back pace seed exit);
+        stands = stands-alike back room r work marks (w .stands);
+      }

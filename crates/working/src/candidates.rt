@@ -110,20 +110,24 @@ fn compare(
 ) -> Turn
     ensures { λ r. ⌜ (closedOk (now (closed .entry)) ≡ true → Front mask (now (closed .entry)) convention front newest → Compared mask (now (closed .entry)) convention newest (unlessPast false mask (now (closed .entry)) convention newest day) r) ⌝ }
 {
-    let held = front_of(front, newest, convention, mask, closed);
-    match held {
-        Dated::Refused(n) => Turn::Stop(n),
-        Dated::Day(a) => {
-            let moved = search::adjust(day, convention, mask, closed);
-            match moved {
-                Dated::Refused(n) => Turn::Stop(n),
-                Dated::Day(b) => {
-                    if a.day == b.day {
-                        return Turn::Skip(a.day);
-                    }
-                    Turn::Keep { day, front: b.day }
-                }
+    let mut held = front;
+    if front == 0 {
+        let found = search::adjust(newest, convention, mask, closed);
+        match found {
+            Dated::Refused(n) => return Turn::Stop(n),
+            Dated::Day(a) => {
+                held = a.day;
             }
+        }
+    }
+    let moved = search::adjust(day, convention, mask, closed);
+    match moved {
+        Dated::Refused(n) => Turn::Stop(n),
+        Dated::Day(b) => {
+            if held == b.day {
+                return Turn::Skip(held);
+            }
+            Turn::Keep { day, front: b.day }
         }
     }
 }

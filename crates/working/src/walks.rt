@@ -9,6 +9,7 @@ use crate::candidates;
 use crate::candidates::Turn;
 use crate::lists;
 use calendar::Convention;
+use calendar::search;
 use steps::Pace;
 use steps::Seed;
 
@@ -35,17 +36,18 @@ pub fn walk(
 ) -> Walked
     ensures { λ r. ⌜ (Begun (now (closed .entry)) room start (now (work .entry)) (now (marks .entry)) → Walking mask (now (closed .entry)) convention back room (walk (turnOf mask (now (closed .entry)) convention back pace seed exit) room 876216 1 (held back start (now (work .entry)) (now (marks .entry)))) r (now (work .exit)) (now (marks .exit))) ⌝ }
 {
+    let way = search::convention_on(convention, mask, closed);
     let mut n = start;
     let mut k: u32 = 1;
     let mut front: u32 = 0;
+    let mut newest = lists::newest(back, n, work);
     while k <= 876216 {
-        let newest = lists::newest(back, n, work);
         let t = candidates::try_candidate(
             back,
             pace,
             seed,
             exit,
-            convention,
+            way,
             mask,
             closed,
             newest,
@@ -71,6 +73,7 @@ pub fn walk(
                     }
                     Filled::Ready(m) => {
                         n = m;
+                        newest = day;
                         front = b;
                         k += 1;
                     }

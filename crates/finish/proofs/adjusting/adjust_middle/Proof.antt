@@ -25,6 +25,9 @@ move-middle-requires c κs = search needs
 enum-told-2 : tie.Need-enum-told-2
 enum-told-2 c = search needs
 
+convention-on-requires : tie.Need-convention-on-requires
+convention-on-requires c κs = search needs
+
 middle-move-requires-2 : tie.Need-middle-move-requires-2
 middle-move-requires-2 c κs = search needs
 
@@ -58,6 +61,7 @@ adjust-middle-spec =
     middle-move-requires
     move-middle-requires
     enum-told-2
+    convention-on-requires
     middle-move-requires-2
     move-middle-requires-2
     enum-known-end

@@ -1,5 +1,15 @@
 -- `working::candidates::compare` meets its contract.
 -- Assumes nothing.
+use mathlib.Core.Path.{_≡_, ap, sym, _∙_}
+use mathlib.Core.Bool.{true}
+use mathlib.Core.Logic.{⊎-elim}
+use Prim.Native.Nat.{ℕ}
+use denote.Ref.{now}
+use Rattle.refusal.specs.Answer.{given}
+use Rattle.date.specs.Made.{given-day}
+use Rattle.calendar.specs.Open.{closedOk}
+use Rattle.calendar.specs.Adjust.{adjusted}
+use Rattle.working.specs.Turning.{Front}
 use Rattle.working.proofs.Turns.{compare-stop, compare-closed, compare-skip, compare-keep}
 use borrow.Author.Needs.{needs}
 use Rattle.working.proofs.candidates.compare.Statement.{statement}
@@ -7,19 +17,34 @@ use Rattle.working.proofs.candidates.compare.Tie as tie
 use Rattle.working.proofs.candidates.compare.Reads as reads
 use Rattle.working.proofs.candidates.compare.Lts as lts
 use Rattle.calendar.proofs.search.adjust.Reads as adjust-reads
-use Rattle.working.proofs.candidates.front_of.Reads as front-of-reads
 
-front-of-requires : tie.Need-front-of-requires
-front-of-requires c κs = search needs
-
-enum-known-held : tie.Need-enum-known-held
-enum-known-held c = search needs
-
-enum-known-held-2 : tie.Need-enum-known-held-2
-enum-known-held-2 c = search needs
+-- what is held is the newest date's adjusted date, found or known
+known : (j : tie.Joined1) →
+    closedOk (now (j .before .before .args .closed)) ≡ true →
+    Front (j .before .before .args .mask) (now (j .before .before .args .closed)) (j .before .before .args .convention) (j .before .before .args .front) (j .before .before .args .newest) →
+    adjusted (j .before .before .args .mask) (now (j .before .before .args .closed)) (j .before .before .args .convention) (j .before .before .args .newest) ≡ given (j .if1 .held)
+known j ok f =
+    ⊎-elim
+    (λ p. given-day (p .1 .result) (p .3 .given .0 .0) _ (p .1 .ensures ok) (p .3 .given .1) ∙ ap (λ (n : ℕ). given n) (sym (p .5)))
+    (λ p. f .known (p .0 .left) ∙ ap (λ (n : ℕ). given n) (sym (p .1)))
+    (j .if1 .came)
 
 adjust-requires : tie.Need-adjust-requires
 adjust-requires c κs = search needs
+
+enum-known-found : tie.Need-enum-known-found
+enum-known-found c = search needs
+
+returns : tie.Need-returns
+returns c =
+    let found = c .before .before .before .adjust in
+    λ ok f. compare-stop _ _ _ _ _ (found .result) (found .ensures ok) (c .before .found .given .0 .0) (c .before .found .given .1)
+
+enum-known-found-2 : tie.Need-enum-known-found-2
+enum-known-found-2 c = search needs
+
+adjust-requires-2 : tie.Need-adjust-requires-2
+adjust-requires-2 c κs = search needs
 
 enum-known-moved : tie.Need-enum-known-moved
 enum-known-moved c = search needs
@@ -27,40 +52,32 @@ enum-known-moved c = search needs
 enum-known-moved-2 : tie.Need-enum-known-moved-2
 enum-known-moved-2 c = search needs
 
-returns : tie.Need-returns
-returns c =
-    let m = c .before .before .before .before .before .before in
-    let h = m .before .before .before .before in
-    λ ok f. compare-skip _ _ _ _ _ (h .front-of .result) (h .front-of .ensures ok f) (m .before .before .held2 .given .0 .0) (cc) (m .adjust .result) (m .adjust .ensures ok) (c .before .before .before .before .moved2 .given .0 .0) (cc) (c .if1 .taken)
-
 returns-2 : tie.Need-returns-2
 returns-2 c =
-    let h = c .before .before .before in
-    λ ok f. compare-stop _ _ _ _ _ (h .front-of .result) (h .front-of .ensures ok f) (c .before .held .given .0 .0) (cc)
+    let m = c .before .before .before .before .before in
+    λ ok f. compare-skip _ _ _ _ _ _ (known (m .before) ok f) (m .adjust2 .result) (m .adjust2 .ensures ok) (c .before .before .before .moved2 .given .0 .0) (c .before .before .before .moved2 .given .1) (c .if2 .taken)
 
 returns-3 : tie.Need-returns-3
 returns-3 c =
     let m = c .before .before .before in
-    let h = m .before .before .before .before in
-    λ ok f. compare-closed _ _ _ _ _ (h .front-of .result) (h .front-of .ensures ok f) (m .before .before .held2 .given .0 .0) (cc) (m .adjust .result) (m .adjust .ensures ok) (c .before .moved .given .0 .0) (cc)
+    λ ok f. compare-closed _ _ _ _ _ _ (known (m .before) ok f) (m .adjust2 .result) (m .adjust2 .ensures ok) (c .before .moved .given .0 .0) (c .before .moved .given .1)
 
 returns-4 : tie.Need-returns-4
 returns-4 c =
-    let m = c .before .before .before .before .before .before in
-    let h = m .before .before .before .before in
-    λ ok f. compare-keep _ _ _ _ _ (h .front-of .result) (h .front-of .ensures ok f) (m .before .before .held2 .given .0 .0) (cc) (m .adjust .result) (m .adjust .ensures ok) (c .before .before .before .before .moved2 .given .0 .0) (cc) (c .if1 .left)
+    let m = c .before .before .before .before .before in
+    λ ok f. compare-keep _ _ _ _ _ _ (known (m .before) ok f) (m .adjust2 .result) (m .adjust2 .ensures ok) (c .before .before .before .moved2 .given .0 .0) (c .before .before .before .moved2 .given .1) (c .if2 .left)
 
 pub compare-spec : {M : Type 1} → statement M
 compare-spec =
     tie.close
     (tie.spec
-    front-of-requires
-    enum-known-held
-    enum-known-held-2
     adjust-requires
+    enum-known-found
+    returns
+    enum-known-found-2
+    adjust-requires-2
     enum-known-moved
     enum-known-moved-2
-    returns
     returns-2
     returns-3
     returns-4)

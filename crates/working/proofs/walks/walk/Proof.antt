@@ -1,30 +1,34 @@
 use mathlib.Core.Path.{_≡_, refl, _∙_}
-use Prim.Native.Nat.{_-_, _≤_}
+use Prim.Native.Nat.{_-_, _≤_, _<_}
 use native.Mathlib.Omega.{arith}
 use lib.ListN.{length}
 use Rattle.steps.specs.Candidates.{turnOf}
-use Rattle.steps.specs.Generate.{walk}
+use Rattle.steps.specs.Generate.{newest, walk}
 use Rattle.working.specs.Part.{Begun, held}
 use borrow.Author.Needs.{needs}
-use Rattle.working.proofs.Walking.{Going, going-start, walk-stop, walk-past, walk-skip, walk-full, walk-keep, walk-out}
+use Rattle.working.proofs.Walking.{Going, going-start, walk-stop, walk-past, walk-skip, walk-full, walk-newest, walk-keep, walk-out, walk-alike}
 use Rattle.working.proofs.walks.walk.Statement.{statement}
 use Rattle.working.proofs.walks.walk.Tie as tie
 use Rattle.working.proofs.walks.walk.Reads as reads
 use Rattle.working.proofs.walks.walk.Lts as lts
 use Rattle.working.proofs.candidates.try_candidate.Reads as try-candidate-reads
+use Rattle.calendar.proofs.search.convention_on.Reads as convention-on-reads
 use Rattle.working.proofs.lists.newest.Reads as newest-reads
 use Rattle.working.proofs.lists.put.Reads as put-reads
 
 abbrev Inv-loop : tie.InvT-loop
-Inv-loop back pace seed exit convention mask closed start room work₀ marks₀ n₀ k₀ front₀ work marks n k front =
-    (k ≤ 876217) × (length work ≡ length work₀) × (length marks ≡ length marks₀) × (Begun closed room start work₀ marks₀ → Going mask closed convention back pace seed exit room (walk (turnOf mask closed convention back pace seed exit) room 876216 1 (held back start work₀ marks₀)) work marks n k front)
+Inv-loop back pace seed exit mask closed start room work₀ marks₀ way n₀ k₀ front₀ day₀ work marks n k front day =
+    (k ≤ 876217) × (length work ≡ length work₀) × (length marks ≡ length marks₀) × (Begun closed room start work₀ marks₀ → Going mask closed way back pace seed exit room (walk (turnOf mask closed way back pace seed exit) room 876216 1 (held back start work₀ marks₀)) work marks n k front) × (Begun closed room start work₀ marks₀ → length work ≡ 4096 → n < 4097 → day ≡ newest (held back n work work))
 
 abbrev μ-loop : tie.MeasureT-loop
-μ-loop back pace seed exit convention mask closed start room work₀ marks₀ n₀ k₀ front₀ work marks n k front =
+μ-loop back pace seed exit mask closed start room work₀ marks₀ way n₀ k₀ front₀ day₀ work marks n k front day =
     876217 - k
 
 loop-holds : tie.Need-loop-holds Inv-loop μ-loop
-loop-holds c = (omega arith, refl, refl, λ b. going-start _ _ _ _ _ _ _ _ _ _ _ b)
+loop-holds c = (omega arith, refl, refl, λ b. going-start _ _ _ _ _ _ _ _ _ _ _ b, λ b. c .newest .ensures)
+
+convention-on-requires : tie.Need-convention-on-requires Inv-loop μ-loop
+convention-on-requires c κs = search needs
 
 newest-requires : tie.Need-newest-requires Inv-loop μ-loop
 newest-requires c κs = search needs
@@ -44,9 +48,9 @@ same-length-2 c = search needs
 returns : tie.Need-returns Inv-loop μ-loop
 returns c = λ b.
     let t = c .before .before .before in
-    let w = t .before in
-    let l = w .before .before in
-    walk-stop (l .before .loop .inv .3 b) (l .loop-test .taken) _ (w .newest .ensures) _ (t .try-candidate .ensures) (c .before .t .given .0 .0) (c .before .t .given .1)
+    let l = t .before in
+    let way = l .before .before .before .before in
+    walk-alike _ _ _ _ (way .convention-on .ensures) _ _ _ _ _ _ _ _ _ _ _ (walk-stop (l .before .loop .inv .3 b) (l .loop-test .taken) _ (l .before .loop .inv .4 b) _ (t .try-candidate .ensures) (c .before .t .given .0 .0) (c .before .t .given .1))
 
 enum-told : tie.Need-enum-told Inv-loop μ-loop
 enum-told c = search needs
@@ -60,9 +64,9 @@ same-length-4 c = search needs
 returns-2 : tie.Need-returns-2 Inv-loop μ-loop
 returns-2 c = λ b.
     let t = c .before .before in
-    let w = t .before in
-    let l = w .before .before in
-    walk-past (l .before .loop .inv .3 b) (l .loop-test .taken) _ (w .newest .ensures) _ (t .try-candidate .ensures) (c .enum-told .given .1)
+    let l = t .before in
+    let way = l .before .before .before .before in
+    walk-alike _ _ _ _ (way .convention-on .ensures) _ _ _ _ _ _ _ _ _ _ _ (walk-past (l .before .loop .inv .3 b) (l .loop-test .taken) _ (l .before .loop .inv .4 b) _ (t .try-candidate .ensures) (c .enum-told .given .1))
 
 enum-known-t-2 : tie.Need-enum-known-t-2 Inv-loop μ-loop
 enum-known-t-2 c = search needs
@@ -76,13 +80,13 @@ loop-less c = search needs
 loop-again : tie.Need-loop-again Inv-loop μ-loop
 loop-again c =
     let t = c .before .before .before in
-    let w = t .before in
-    let l = w .before .before in
+    let l = t .before in
     let i = l .before .loop .inv in (
       omega (arith, l .loop-test .taken),
       i .1,
       i .2,
-      λ b. walk-skip (i .3 b) (l .loop-test .taken) _ (w .newest .ensures) _ (t .try-candidate .ensures) (c .before .t2 .given .0 .0) (c .before .t2 .given .1),
+      λ b. walk-skip (i .3 b) (l .loop-test .taken) _ (i .4 b) _ (t .try-candidate .ensures) (c .before .t2 .given .0 .0) (c .before .t2 .given .1),
+      i .4,
     )
 
 enum-known-t-3 : tie.Need-enum-known-t-3 Inv-loop μ-loop
@@ -105,9 +109,9 @@ returns-3 c = λ b.
     let p = c .before .before .before .before .before .before .before in
     let k = p .before .before .before .before in
     let t = k .before .before in
-    let w = t .before in
-    let l = w .before .before in
-    walk-full (l .before .loop .inv .3 b) (l .loop-test .taken) _ (w .newest .ensures) _ (t .try-candidate .ensures) (k .t3 .given .0 .0) (k .t3 .given .0 .1 .0) (k .t3 .given .1) _ _ _ (p .put .ensures) (c .before .put2 .given .0 .0) (c .before .put2 .given .1)
+    let l = t .before in
+    let way = l .before .before .before .before in
+    walk-alike _ _ _ _ (way .convention-on .ensures) _ _ _ _ _ _ _ _ _ _ _ (walk-full (l .before .loop .inv .3 b) (l .loop-test .taken) _ (l .before .loop .inv .4 b) _ (t .try-candidate .ensures) (k .t3 .given .0 .0) (k .t3 .given .0 .1 .0) (k .t3 .given .1) _ _ _ (p .put .ensures) (c .before .put2 .given .0 .0) (c .before .put2 .given .1))
 
 enum-known-put-2 : tie.Need-enum-known-put-2 Inv-loop μ-loop
 enum-known-put-2 c = search needs
@@ -123,13 +127,13 @@ loop-again-2 c =
     let p = c .before .before .before .before .before .before .before in
     let k = p .before .before .before .before in
     let t = k .before .before in
-    let w = t .before in
-    let l = w .before .before in
+    let l = t .before in
     let i = l .before .loop .inv in (
       omega (arith, l .loop-test .taken),
       c .before .before .before .before .before .before .work .given ∙ i .1,
       c .before .before .before .before .marks .given ∙ i .2,
-      λ b. walk-keep (i .3 b) (l .loop-test .taken) _ (w .newest .ensures) _ (t .try-candidate .ensures) (k .t3 .given .0 .0) (k .t3 .given .0 .1 .0) (k .t3 .given .1) _ _ _ (p .put .ensures) (c .before .put3 .given .0 .0) (c .before .put3 .given .1),
+      λ b. walk-keep (i .3 b) (l .loop-test .taken) _ (i .4 b) _ (t .try-candidate .ensures) (k .t3 .given .0 .0) (k .t3 .given .0 .1 .0) (k .t3 .given .1) _ _ _ (p .put .ensures) (c .before .put3 .given .0 .0) (c .before .put3 .given .1),
+      λ b _ _. walk-newest (i .3 b) (l .loop-test .taken) _ (i .4 b) _ (t .try-candidate .ensures) (k .t3 .given .0 .0) (k .t3 .given .0 .1 .0) (k .t3 .given .1) _ _ _ (p .put .ensures) (c .before .put3 .given .0 .0) (c .before .put3 .given .1),
     )
 
 same-length-7 : tie.Need-same-length-7 Inv-loop μ-loop
@@ -139,7 +143,7 @@ same-length-8 : tie.Need-same-length-8 Inv-loop μ-loop
 same-length-8 c = search needs
 
 returns-4 : tie.Need-returns-4 Inv-loop μ-loop
-returns-4 c = λ b. walk-out (c .before .loop .inv .3 b) (c .loop-test .left)
+returns-4 c = λ b. walk-alike _ _ _ _ (c .before .before .before .before .convention-on .ensures) _ _ _ _ _ _ _ _ _ _ _ (walk-out (c .before .loop .inv .3 b) (c .loop-test .left))
 
 pub walk-spec : {M : Type 1} → statement M
 walk-spec =
@@ -147,8 +151,9 @@ walk-spec =
     (tie.spec
     Inv-loop
     μ-loop
-    loop-holds
+    convention-on-requires
     newest-requires
+    loop-holds
     try-candidate-requires
     enum-known-t
     same-length
