@@ -1,7 +1,7 @@
 -- A law for each way through a build.
 -- Assumes nothing.
 use mathlib.Core.Path.{_≡_, refl, ap, sym, _∙_}
-use mathlib.Core.Bool.{Bool, true, false, _&&_, false≢true}
+use mathlib.Core.Bool.{Bool, true, false}
 use mathlib.Core.List.{List}
 use Prim.Native.Nat.{ℕ, zero, suc, _+_, _-_, _≤_, min}
 use native.Mathlib.Omega.{arith}
@@ -9,24 +9,23 @@ use lib.ListN.{length, take, drop, length-drop}
 use lib.Seq.{take-all, length-take-le}
 use Rattle.refusal.specs.Answer.{Answer, given, refused, then}
 use Rattle.refusal.specs.Laws.{then-given, then-refused}
-use Rattle.date.specs.Date.{inBook}
 use Rattle.steps.specs.declared.Rule.{Rule}
 use Rattle.steps.specs.declared.Request.{Request}
 use Rattle.steps.specs.declared.Built.{Built}
 use Rattle.steps.specs.Rules.{isZero, isBackward, ruleInForce}
-use Rattle.steps.specs.Table.{firstRow, inputRows, datesOk, anchorOk}
+use Rattle.steps.specs.Table.{firstRow, inputRows}
 use Rattle.steps.specs.TableLaws.{accepted}
 use Rattle.steps.specs.Generate.{nothing, put, zeroDates, backward, forward, generateBy, generate}
 use Rattle.steps.specs.Finish.{finish}
 use Rattle.steps.specs.Build.{Schedule, stepsOf, admitted, buildOf, answered, datesAfter, flagsAfter, Written}
 use Rattle.working.specs.declared.Filled.{Filled}
 use Rattle.working.specs.declared.Filled.the-variants as filled-is
-use Rattle.schedule.specs.declared.Generated.{Generated}
-use Rattle.schedule.specs.declared.Generated.the-variants as generated-is
+use Rattle.backwards.specs.declared.Generated.{Generated}
+use Rattle.backwards.specs.declared.Generated.the-variants as generated-is
 use Rattle.working.specs.Part.{Part, held, lastPut, Filling}
 use Rattle.finish.specs.Finishing.{scheduled, Lent, refusedBuilt, completed}
 use Rattle.finish.specs.Lending.{lent-fits, completed-on}
-use Rattle.schedule.specs.Making.{Checked, generated, Lies, Generates}
+use Rattle.backwards.specs.Making.{Checked, generated, Lies, Generates}
 use Rattle.working.specs.Held.{put-length}
 use Rattle.working.specs.Chains.{filled-part, filled-given}
 
@@ -69,29 +68,8 @@ module _ (q : Request) (closed : List ℕ) (rule : Rule) (r : rule ≡ ruleInFor
     generate-forth h = rw (sym in-force ∙ e, sym in-back ∙ h) refl
 
 -- ---- the checks
-and-first : (a b : Bool) → (a && b) ≡ true → a ≡ true
-and-first true b h = refl
-and-first false b h = h
-
-and-second : (a b : Bool) → (a && b) ≡ true → b ≡ true
-and-second true b h = h
-and-second false b h = absurd (false≢true h)
-
 pub checked : (q : Request) (closed : List ℕ) (dates flags : ℕ) → firstRow (inputRows q closed dates flags) ≡ 0 → Checked q closed
-unfolding datesOk
-checked q closed dates flags h =
-    let a = accepted q closed dates flags h in
-    let d = a .dates-hold in
-    let t = and-second (inBook (q .effective .day)) _ d in
-    let f = and-second (inBook (q .termination .day)) _ t in
-    record {
-      effective = and-first (inBook (q .effective .day)) _ d;
-      termination = and-first (inBook (q .termination .day)) _ t;
-      first = and-first (anchorOk (q .first .day)) _ f;
-      penultimate = and-second (anchorOk (q .first .day)) _ f;
-      calendar = a .closed-holds;
-      tenor = a .tenor-holds;
-    }
+checked q closed dates flags h = let a = accepted q closed dates flags h in record { calendar = a .closed-holds; tenor = a .tenor-holds }
 
 -- ---- a part of the working lists
 module _ (l : List ℕ) (at n end : ℕ) (size : length l ≡ 4096) (e : end ≡ at + n) (fits : at + n ≤ 4096) where

@@ -26,13 +26,14 @@ use Rattle.working.specs.declared.adds.Added.{Added}
 use Rattle.working.specs.declared.adds.Added.the-variants as added-is
 use Rattle.opening.specs.declared.Opening.{Opening}
 use Rattle.opening.specs.declared.Opening.the-variants as opening-is
-use Rattle.schedule.specs.declared.Generated.{Generated}
-use Rattle.schedule.specs.declared.Generated.the-variants as generated-is
+use Rattle.backwards.specs.declared.Generated.{Generated}
+use Rattle.backwards.specs.declared.Generated.the-variants as generated-is
 use Rattle.working.specs.Part.{Part, held, lastPut, filled, Placed, Filling}
 use Rattle.working.specs.Adding.{Adding}
 use Rattle.opening.specs.Opening.{openedBy, Open, Opens}
-use Rattle.schedule.specs.Making.{opening, generated, Lies, Generates}
-use Rattle.schedule.proofs.Chains.{added-given, added-refused}
+use Rattle.backwards.specs.Making.{generated, Lies, Generates}
+use Rattle.schedule.specs.Begun.{opening}
+use Rattle.backwards.specs.Chains.{added-given, added-refused}
 use Rattle.working.specs.Chains.{stopped, filled-part, filled-given}
 use Rattle.working.specs.Held.{newest-alone}
 

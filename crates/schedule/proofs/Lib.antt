@@ -1,4 +1,2 @@
-pub mod Chains
-pub mod Backing
 pub mod Forthing
 pub mod Building

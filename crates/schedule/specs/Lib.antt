@@ -1,1 +1,1 @@
-pub mod Making
+pub mod Begun

@@ -2,10 +2,9 @@
 ghost use mathlib.Core.Path.{_≡_};
 ghost use Rattle.steps.specs.Generate.{zeroDates, generate};
 ghost use Rattle.working.specs.Part.{Part};
-ghost use Rattle.schedule.specs.Making.{Checked, Generates};
-use crate::Generated;
-use crate::backwards;
+ghost use Rattle.backwards.specs.Making.{Checked, Generates};
 use crate::forwards;
+use backwards::Generated;
 use steps::Request;
 use steps::rules;
 use working::Filled;

@@ -8,8 +8,9 @@ ghost use Rattle.calendar.specs.Open.{closedOk};
 ghost use Rattle.steps.specs.Finish.{finish};
 ghost use Rattle.steps.specs.Build.{Written, stepsOf, buildOf};
 ghost use Rattle.working.specs.Part.{Part};
+ghost use Rattle.backwards.specs.Making.{Checked};
 ghost use Rattle.finish.specs.Finishing.{scheduled};
-ghost use Rattle.schedule.specs.Making.{Checked};
+use backwards::Generated;
 use steps::Built;
 use steps::Request;
 use steps::table;
@@ -18,20 +19,6 @@ use steps::table;
 mod forwards;
 // The dates of a build, by its rule.
 mod generating;
-// Backward builds.
-mod backwards;
-
-// What has been generated: n dates from a place on in the working list, and the flags between them from another place on.
-pub(crate) enum Generated {
-    Ready {
-        from: usize,
-        marked: usize,
-        n: usize,
-        tries: u32,
-        seed: u32,
-    },
-    Refused(u8),
-}
 
 fn least(a: usize, b: usize) -> usize
     ensures { λ r. ⌜ r ≡ min a b ⌝ }

@@ -1,7 +1,7 @@
 -- `schedule::forwards::forward_end` meets its contract.
 -- Assumes nothing.
 use Rattle.steps.specs.Generate.{forwardEnd}
-use Rattle.schedule.proofs.Chains.{filled-ends}
+use Rattle.backwards.specs.Chains.{filled-ends}
 use Rattle.schedule.proofs.Forthing.{forth-made}
 use borrow.Author.Needs.{needs}
 use Rattle.schedule.proofs.forwards.forward_end.Statement.{statement}

@@ -4,14 +4,13 @@ use Rattle.working.specs.Held.{begun-of}
 use Rattle.working.specs.Paces.{pace-checked}
 use mathlib.Core.Path.{refl, _∙_}
 use Rattle.steps.specs.Generate.{forwardFrom}
-use Rattle.schedule.proofs.Chains.{walking-as, walked-stands, walked-ends, walked-makes}
-use Rattle.schedule.proofs.Backing.{loop-is}
+use Rattle.backwards.specs.Chains.{walking-as, walked-stands, walked-ends, walked-makes, loop-is}
 use borrow.Author.Needs.{needs}
 use Rattle.schedule.proofs.forwards.forward_from.Statement.{statement}
 use Rattle.schedule.proofs.forwards.forward_from.Tie as tie
 use Rattle.schedule.proofs.forwards.forward_from.Reads as reads
 use Rattle.schedule.proofs.forwards.forward_from.Lts as lts
-use Rattle.schedule.proofs.backwards.anchor_or.Reads as anchor-or-reads
+use Rattle.backwards.proofs.anchor_or.Reads as anchor-or-reads
 use Rattle.working.proofs.candidates.pace_of.Reads as pace-of-reads
 use Rattle.schedule.proofs.forwards.forward_end.Reads as forward-end-reads
 use Rattle.working.proofs.walks.walk.Reads as walk-reads

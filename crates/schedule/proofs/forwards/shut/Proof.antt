@@ -2,7 +2,7 @@
 -- Assumes nothing.
 use Rattle.working.specs.Held.{begun-of}
 use Rattle.steps.specs.Generate.{shut}
-use Rattle.schedule.proofs.Chains.{added-sits}
+use Rattle.backwards.specs.Chains.{added-sits}
 use Rattle.schedule.proofs.Forthing.{shut-stop, shut-on}
 use borrow.Author.Needs.{needs}
 use Rattle.schedule.proofs.forwards.shut.Statement.{statement}

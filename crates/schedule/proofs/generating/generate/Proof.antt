@@ -1,13 +1,13 @@
 -- `schedule::generating::generate` meets its contract.
 -- Assumes nothing.
-use Rattle.schedule.proofs.Chains.{generates-as}
+use Rattle.backwards.specs.Chains.{generates-as}
 use Rattle.schedule.proofs.Building.{generate-zero, generate-back, generate-forth}
 use borrow.Author.Needs.{needs}
 use Rattle.schedule.proofs.generating.generate.Statement.{statement}
 use Rattle.schedule.proofs.generating.generate.Tie as tie
 use Rattle.schedule.proofs.generating.generate.Reads as reads
 use Rattle.schedule.proofs.generating.generate.Lts as lts
-use Rattle.schedule.proofs.backwards.backward.Reads as backward-reads
+use Rattle.backwards.proofs.backward.Reads as backward-reads
 use Rattle.schedule.proofs.forwards.forward.Reads as forward-reads
 use Rattle.schedule.proofs.generating.zero_dates.Reads as zero-dates-reads
 use Rattle.steps.proofs.rules.is_backward.Reads as is-backward-reads
@@ -45,7 +45,9 @@ same-length-4 : tie.Need-same-length-4
 same-length-4 c = search needs
 
 returns-2 : tie.Need-returns-2
-returns-2 c = generates-as (generate-back _ _ _ (c .before .before .before .before .before .before .before .before .before .before .before .rule-in-force .ensures) (c .before .before .before .before .before .before .before .before .before .before .is-zero .result) (c .before .before .before .before .before .before .before .before .before .before .is-zero .ensures) _ (c .before .before .before .before .before .before .before .before .before .if1 .left) (c .before .before .before .before .before .before .before .before .is-backward .result) (c .before .before .before .before .before .before .before .before .is-backward .ensures) (c .before .before .before .before .before .before .before .if2 .taken)) (c .before .before .before .before .backward .ensures)
+returns-2 c =
+    let s = c .before .before .before .before .before .before .before .before .before .before .before .before .before .before .before .pre in
+    generates-as (generate-back _ _ _ (c .before .before .before .before .before .before .before .before .before .before .before .rule-in-force .ensures) (c .before .before .before .before .before .before .before .before .before .before .is-zero .result) (c .before .before .before .before .before .before .before .before .before .before .is-zero .ensures) _ (c .before .before .before .before .before .before .before .before .before .if1 .left) (c .before .before .before .before .before .before .before .before .is-backward .result) (c .before .before .before .before .before .before .before .before .is-backward .ensures) (c .before .before .before .before .before .before .before .if2 .taken)) (c .before .before .before .before .backward .ensures (s .0) (s .1))
 
 forward-requires : tie.Need-forward-requires
 forward-requires c κs = search needs

@@ -1,14 +1,14 @@
--- `schedule::backwards::end` meets its contract.
+-- `backwards::ending::end` meets its contract.
 -- Assumes nothing.
 use Rattle.working.specs.Held.{begun-of}
 use mathlib.Core.Path.{refl}
 use Rattle.steps.specs.Generate.{ended}
-use Rattle.schedule.proofs.Chains.{added-sits, added-stop, added-on}
+use Rattle.backwards.specs.Chains.{added-sits, added-stop, added-on}
 use borrow.Author.Needs.{needs}
-use Rattle.schedule.proofs.backwards.end.Statement.{statement}
-use Rattle.schedule.proofs.backwards.end.Tie as tie
-use Rattle.schedule.proofs.backwards.end.Reads as reads
-use Rattle.schedule.proofs.backwards.end.Lts as lts
+use Rattle.backwards.proofs.ending.end.Statement.{statement}
+use Rattle.backwards.proofs.ending.end.Tie as tie
+use Rattle.backwards.proofs.ending.end.Reads as reads
+use Rattle.backwards.proofs.ending.end.Lts as lts
 use Rattle.working.proofs.adds.put_anchor.Reads as put-anchor-reads
 use Rattle.working.proofs.adds.put_new.Reads as put-new-reads
 
@@ -32,9 +32,7 @@ same-length-2 c = search needs
 
 returns : tie.Need-returns
 unfolding ended
-returns c =
-    let s = c .before .before .before .before .before .before .before .before .before .before .before .before .before .pre in
-    added-stop (c .before .before .before .before .before .before .before .put-anchor .ensures (begun-of (s .0) (s .1 .0)) (s .1 .1)) _ _ _ (c .before .anchored .given .1)
+returns c = λ b k. added-stop (c .before .before .before .before .before .before .before .put-anchor .ensures b k) _ _ _ (c .before .anchored .given .1)
 
 same-length-3 : tie.Need-same-length-3
 same-length-3 c = search needs
@@ -44,12 +42,11 @@ same-length-4 c = search needs
 
 returns-2 : tie.Need-returns-2
 unfolding ended
-returns-2 c =
-    let s = c .before .before .before .before .before .before .before .before .before .before .before .before .before .before .before .before .before .before .before .before .pre in
-    let a = c .before .before .before .before .before .before .before .before .before .before .before .before .before .before .put-anchor .ensures (begun-of (s .0) (s .1 .0)) (s .1 .1) in
+returns-2 c = λ b k.
+    let a = c .before .before .before .before .before .before .before .before .before .before .before .before .before .before .put-anchor .ensures b k in
     let e = c .before .before .before .before .before .before .before .before .anchored2 .given .1 in
     let p = added-sits a _ _ e in
-    added-on a _ _ _ _ _ _ _ e (c .before .before .before .before .put-new .ensures (begun-of (s .0 .0, p .1) (p .0)) (p .2 refl))
+    added-on a _ _ _ _ _ _ _ e (c .before .before .before .before .put-new .ensures (begun-of (b .calendar, p .1) (p .0)) (p .2 refl))
 
 pub end-spec : {M : Type 1} → statement M
 end-spec =

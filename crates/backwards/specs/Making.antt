@@ -1,28 +1,21 @@
--- What the input checks have shown of a request, and what has been generated of it.
+-- What generating needs of the input checks, and what it answers.
 -- Assumes nothing.
 use Prim.Native.Nat.{ℕ, _+_, _-_, _≤_}
 use mathlib.Core.Path.{_≡_}
-use mathlib.Core.Bool.{true, false}
+use mathlib.Core.Bool.{true}
 use mathlib.Core.List.{List}
 use lib.IntN.{natAbs}
 use lib.ListN.{take, drop}
 use Rattle.refusal.specs.Answer.{Answer, given, refused}
-use Rattle.date.specs.Date.{inBook}
 use Rattle.calendar.specs.Open.{closedOk}
 use Rattle.calendar.specs.Calendar.{tenorOk}
 use Rattle.steps.specs.declared.Request.{Request}
-use Rattle.steps.specs.Table.{anchorOk}
-use Rattle.steps.specs.Generate.{Made, Opened}
-use Rattle.working.specs.Part.{held}
-use Rattle.schedule.specs.declared.Generated.{Generated}
-use Rattle.schedule.specs.declared.Generated.the-variants.{Ready, Refused}
+use Rattle.steps.specs.Generate.{Made}
+use Rattle.backwards.specs.declared.Generated.{Generated}
+use Rattle.backwards.specs.declared.Generated.the-variants.{Ready, Refused}
 
--- what the input checks have shown
+-- what the input checks have shown that generating rests on
 pub record Checked (q : Request) (closed : List ℕ) : Type 0 where
-  pub effective : inBook (q .effective .day) ≡ true
-  pub termination : inBook (q .termination .day) ≡ true
-  pub first : anchorOk (q .first .day) ≡ true
-  pub penultimate : anchorOk (q .penultimate .day) ≡ true
   pub calendar : closedOk closed ≡ true
   pub tenor : tenorOk (natAbs (q .tenor .length)) (q .tenor .unit) ≡ true
 
@@ -39,7 +32,3 @@ Lies room (Refused k) = Unit {0}
 pub record Generates (room : ℕ) (o : Answer Made) (r : Generated) (work marks : List ℕ) : Type 0 where
   pub says : generated r work marks ≡ o
   pub lies : Lies room r
-
--- n dates of a forward build, and the seed
-abbrev pub opening : ℕ → ℕ → List ℕ → List ℕ → Opened
-opening n seed work marks = record { lists = held false n work marks; seed = seed }

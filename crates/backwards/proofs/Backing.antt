@@ -20,19 +20,19 @@ use Rattle.steps.specs.declared.Seed.{Seed}
 use Rattle.steps.specs.declared.Request.{Request}
 use Rattle.steps.specs.Rules.{paceOf}
 use Rattle.steps.specs.Table.{isGiven}
-use Rattle.steps.specs.Candidates.{candidate, seedOf, turnOf}
-use Rattle.steps.specs.Generate.{Lists, nothing, put, hasRoom, putPenultimate, anchorOr, begun, ended, backwardEnd, walk, candidates, lastTry}
+use Rattle.steps.specs.Candidates.{candidate, seedOf}
+use Rattle.steps.specs.Generate.{Lists, nothing, put, hasRoom, putPenultimate, anchorOr, begun, ended, backwardEnd}
 use Rattle.steps.specs.Finish.{sameFlag}
 use Rattle.working.specs.declared.Filled.{Filled}
 use Rattle.working.specs.declared.Filled.the-variants as filled-is
 use Rattle.working.specs.declared.adds.Added.{Added}
 use Rattle.working.specs.declared.adds.Added.the-variants as added-is
-use Rattle.schedule.specs.declared.Generated.the-variants as generated-is
+use Rattle.backwards.specs.declared.Generated.the-variants as generated-is
 use Rattle.working.specs.Part.{Part, held, lastPut, filled, Placed, Filling}
 use Rattle.working.specs.Adding.{Adding}
-use Rattle.schedule.specs.Making.{generated, Lies, Generates}
+use Rattle.backwards.specs.Making.{generated, Lies, Generates}
 use Rattle.working.specs.Held.{put-length}
-use Rattle.schedule.proofs.Chains.{added-sits, added-given}
+use Rattle.backwards.specs.Chains.{added-sits, added-given}
 
 -- ---- anchors
 pub anchor-none : (anchor other : ℕ) → anchor ≡ 0 → other ≡ anchorOr anchor other
@@ -87,26 +87,20 @@ module _ (pace : Pace) (seed : Seed) {room n : ℕ} {work marks : List ℕ} (p :
 
 -- ---- the end
 module _ (q : Request) (closed : List ℕ) (tries seed : ℕ) {room : ℕ} {same : Type 0} (l : Lists) {a : Added} {work marks : List ℕ} (p : Adding (q .mask) closed (q .convention) true room same (ended q closed room l) a work marks) where
-  pub back-size : (n f : ℕ) → a ≡ added-is.Ready n f → n ≤ 4096
-  back-size n f e = let s = added-sits p n f e .0 in omega (arith, s)
-
-  pub back-made : (n f : ℕ) → a ≡ added-is.Ready n f → Generates room (backwardEnd q closed room tries seed l) (generated-is.Ready (4096 - n) (4096 - n) n tries seed) work marks
+  pub back-made : (n f : ℕ) → a ≡ added-is.Ready n f → (from : ℕ) → from ≡ 4096 - n → Generates room (backwardEnd q closed room tries seed l) (generated-is.Ready from from n tries seed) work marks
   unfolding backwardEnd generated Lies held lastPut
-  back-made n f e =
+  back-made n f e from at =
       let s = added-sits p n f e in
       let t = s .0 in
       let w : length (drop (4096 - n) work) ≡ n = put-length true work n (t .work-size) (omega (arith, t)) in
       let d : take n (drop (4096 - n) work) ≡ drop (4096 - n) work = take-all n (drop (4096 - n) work) (omega arith) in
-      record {
+      rw at
+      (record {
         says = then-given (ended q closed room l) (held true n work marks) _ _ (added-given p n f e) (rw (d, w) refl);
         lies = (omega arith, t .fits, omega (arith, t), omega (arith, t));
-      }
+      })
 
 -- ---- what the steps were called with is what the definition says
-pub loop-is : (q : Request) (closed : List ℕ) (room : ℕ) (back : Bool) (pace : Pace) (seed : Seed) (day exit day′ exit′ : ℕ) (l : Lists) → pace ≡ paceOf (q .tenor) → seed ≡ seedOf (q .monthend) day → day ≡ day′ → exit ≡ exit′ → walk (turnOf (q .mask) closed (q .convention) back pace seed exit) room 876216 1 l ≡ candidates q closed room back day′ exit′ l
-unfolding candidates lastTry
-loop-is q closed room back pace seed day exit day′ exit′ l a b c d = rw (a, b, c, d) refl
-
 pub begun-is : (q : Request) (room : ℕ) (pace : Pace) (seed : Seed) → pace ≡ paceOf (q .tenor) → seed ≡ seedOf (q .monthend) (q .termination .day) → then (put room (q .termination .day) 1 nothing) (putPenultimate pace seed room (q .penultimate .day)) ≡ begun q room
 unfolding begun
 begun-is q room pace seed a b = rw (a, b) refl

@@ -1,26 +1,31 @@
 -- One step after another: what a step has left is handed on, and a refusal stays.
 -- Assumes nothing.
-use mathlib.Core.Path.{_≡_, sym, _∙_}
+use mathlib.Core.Path.{_≡_, refl, sym, _∙_}
 use mathlib.Core.Bool.{Bool}
 use mathlib.Core.List.{List}
 use Prim.Native.Nat.{ℕ, _<_}
 use Rattle.refusal.specs.Answer.{Answer, given, refused, then}
 use Rattle.refusal.specs.Laws.{then-given, then-refused}
 use Rattle.calendar.specs.declared.Convention.{Convention}
-use Rattle.steps.specs.Generate.{Lists, Walk, Made, newest}
+use Rattle.steps.specs.declared.Pace.{Pace}
+use Rattle.steps.specs.declared.Seed.{Seed}
+use Rattle.steps.specs.declared.Request.{Request}
+use Rattle.steps.specs.Rules.{paceOf}
+use Rattle.steps.specs.Candidates.{seedOf, turnOf}
+use Rattle.steps.specs.Generate.{Lists, Walk, Made, newest, walk, candidates, lastTry}
 use Rattle.working.specs.declared.Filled.{Filled}
 use Rattle.working.specs.declared.Filled.the-variants as filled-is
 use Rattle.working.specs.declared.adds.Added.{Added}
 use Rattle.working.specs.declared.adds.Added.the-variants as added-is
 use Rattle.working.specs.declared.walks.Walked.{Walked}
 use Rattle.working.specs.declared.walks.Walked.the-variants as walked-is
-use Rattle.schedule.specs.declared.Generated.{Generated}
-use Rattle.schedule.specs.declared.Generated.the-variants as generated-is
+use Rattle.backwards.specs.declared.Generated.{Generated}
+use Rattle.backwards.specs.declared.Generated.the-variants as generated-is
 use Rattle.working.specs.Part.{Part, held, Filling}
 use Rattle.working.specs.Chains.{filled-given, filled-refused}
 use Rattle.working.specs.Turning.{Front, walked, Stands, Walking}
 use Rattle.working.specs.Adding.{added, Sits, Adding}
-use Rattle.schedule.specs.Making.{generated, Lies, Generates}
+use Rattle.backwards.specs.Making.{generated, Lies, Generates}
 
 -- ---- after a date was put
 module _ {back : Bool} {room : ℕ} {o : Answer Lists} {f : Filled} {work marks : List ℕ} (p : Filling back room o f work marks) where
@@ -83,3 +88,8 @@ walking-as e p = record { says = p .says ∙ e; stands = p .stands }
 
 pub generates-as : {room : ℕ} {o o′ : Answer Made} {r : Generated} {work marks : List ℕ} → o ≡ o′ → Generates room o r work marks → Generates room o′ r work marks
 generates-as e p = record { says = p .says ∙ e; lies = p .lies }
+
+-- ---- the loop that was run is the one that the definition says
+pub loop-is : (q : Request) (closed : List ℕ) (room : ℕ) (back : Bool) (pace : Pace) (seed : Seed) (day exit day′ exit′ : ℕ) (l : Lists) → pace ≡ paceOf (q .tenor) → seed ≡ seedOf (q .monthend) day → day ≡ day′ → exit ≡ exit′ → walk (turnOf (q .mask) closed (q .convention) back pace seed exit) room 876216 1 l ≡ candidates q closed room back day′ exit′ l
+unfolding candidates lastTry
+loop-is q closed room back pace seed day exit day′ exit′ l a b c d = rw (a, b, c, d) refl

@@ -1,0 +1,112 @@
+// Backward builds: from termination back to the effective date.
+ghost use mathlib.Core.Path.{_≡_};
+ghost use mathlib.Core.Bool.{true};
+ghost use Rattle.steps.specs.Rules.{paceOf};
+ghost use Rattle.steps.specs.Generate.{anchorOr, backwardFrom, backward};
+ghost use Rattle.working.specs.Part.{Part, Begun, held};
+ghost use Rattle.backwards.specs.Making.{Checked, Generates};
+use steps::Pace;
+use steps::Request;
+use steps::seeds;
+use working::Filled;
+use working::candidates;
+use working::walks;
+use working::walks::Walked;
+
+// Termination and the next-to-last date.
+mod beginning;
+// The first date and the effective one.
+mod ending;
+
+// What has been generated: n dates from a place on in the working list, and the flags between them from another place on.
+pub enum Generated {
+    Ready {
+        from: usize,
+        marked: usize,
+        n: usize,
+        tries: u32,
+        seed: u32,
+    },
+    Refused(u8),
+}
+
+// An anchor, or the other date where it is absent.
+pub fn anchor_or(anchor: u32, other: u32) -> u32
+    ensures { λ r. ⌜ r ≡ anchorOr anchor other ⌝ }
+{
+    if anchor == 0 { other } else { anchor }
+}
+
+// The loop, and what is left after it.
+fn backward_from(
+    q: Request,
+    closed: &[u32],
+    pace: Pace,
+    n: usize,
+    room: usize,
+    work: &mut [u32],
+    marks: &mut [u8],
+) -> Generated
+    ensures { λ r. ⌜ (pace ≡ paceOf (q .tenor) → Begun (now (closed .entry)) room n (now (work .entry)) (now (marks .entry)) → Generates room (backwardFrom q (now (closed .entry)) room (held true n (now (work .entry)) (now (marks .entry)))) r (now (work .exit)) (now (marks .exit))) ⌝ }
+{
+    let convention = q.convention;
+    let day = anchor_or(q.penultimate.day, q.termination.day);
+    let exit = anchor_or(q.first.day, q.effective.day);
+    let seed = seeds::seed_of(q.monthend, day);
+    let walked = walks::walk(
+        true,
+        pace,
+        seed,
+        exit,
+        convention,
+        q.mask,
+        closed,
+        n,
+        room,
+        work,
+        marks,
+    );
+    match walked {
+        Walked::Refused(k) => Generated::Refused(k),
+        Walked::Ready { n: m, tries, front } => ending::backward_end(
+            q,
+            closed,
+            m,
+            room,
+            front,
+            tries,
+            day,
+            work,
+            marks,
+        ),
+    }
+}
+
+// The dates of a backward build.
+pub fn backward(
+    q: Request,
+    closed: &[u32],
+    room: usize,
+    work: &mut [u32],
+    marks: &mut [u8],
+) -> Generated
+    ensures { λ r. ⌜ (Checked q (now (closed .entry)) → Part room 0 (now (work .entry)) (now (marks .entry)) → Generates room (backward q (now (closed .entry)) room) r (now (work .exit)) (now (marks .exit))) ⌝ }
+{
+    let tenor = q.tenor;
+    let pace = candidates::pace_of(tenor);
+    let termination = q.termination.day;
+    let seed = seeds::seed_of(q.monthend, termination);
+    let begun = beginning::begin(
+        termination,
+        q.penultimate.day,
+        pace,
+        seed,
+        room,
+        work,
+        marks,
+    );
+    match begun {
+        Filled::Refused(k) => Generated::Refused(k),
+        Filled::Ready(n) => backward_from(q, closed, pace, n, room, work, marks),
+    }
+}
