@@ -1,5 +1,4 @@
 // The first dates of a backward build: termination, and the next-to-last date where there is one.
-ghost use mathlib.Core.Path.{_≡_};
 ghost use mathlib.Core.Bool.{true};
 ghost use Prim.Native.Nat.{_<_};
 ghost use Rattle.refusal.specs.Answer.{then};

@@ -1,2 +1,1 @@
-pub mod Forthing
 pub mod Building

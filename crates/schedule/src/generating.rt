@@ -1,9 +1,7 @@
 // The dates of a build, by the rule in force.
-ghost use mathlib.Core.Path.{_≡_};
 ghost use Rattle.steps.specs.Generate.{zeroDates, generate};
 ghost use Rattle.working.specs.Part.{Part};
 ghost use Rattle.backwards.specs.Making.{Checked, Generates};
-use crate::forwards;
 use backwards::Generated;
 use steps::Request;
 use steps::rules;

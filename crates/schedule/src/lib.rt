@@ -15,8 +15,6 @@ use steps::Built;
 use steps::Request;
 use steps::table;
 
-// Forward builds.
-mod forwards;
 // The dates of a build, by its rule.
 mod generating;
 

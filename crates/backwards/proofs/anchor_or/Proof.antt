@@ -8,10 +8,10 @@ use Rattle.backwards.proofs.anchor_or.Reads as reads
 use Rattle.backwards.proofs.anchor_or.Lts as lts
 
 returns : tie.Need-returns
-returns c = search (anchor-none, anchor-some, needs)
+returns c = search (anchor-none, needs)
 
 returns-2 : tie.Need-returns-2
-returns-2 c = search (anchor-none, anchor-some, needs)
+returns-2 c = search (anchor-some, needs)
 
 pub anchor-or-spec : {M : Type 1} → statement M
 anchor-or-spec = tie.close (tie.spec returns returns-2)

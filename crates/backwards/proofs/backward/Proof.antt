@@ -4,7 +4,7 @@ use Rattle.working.specs.Chains.{filled-part, filling-as}
 use Rattle.working.specs.Held.{begun-of}
 use Rattle.working.specs.Paces.{pace-checked}
 use Rattle.backwards.proofs.Backing.{begun-is}
-use mathlib.Core.Path.{_≡_, _∙_}
+use mathlib.Core.Path.{_∙_}
 use Rattle.steps.specs.Generate.{backward}
 use Rattle.backwards.specs.Chains.{filled-ends, filled-makes}
 use borrow.Author.Needs.{needs}

@@ -1,7 +1,6 @@
 -- `backwards::beginning::begin` meets its contract.
 -- Assumes nothing.
 use Rattle.working.specs.Chains.{filled-on, filled-part, filled-stop}
-use mathlib.Core.Path.{_≡_}
 use Rattle.working.specs.Held.{held-none}
 use borrow.Author.Needs.{needs}
 use Rattle.backwards.proofs.beginning.begin.Statement.{statement}

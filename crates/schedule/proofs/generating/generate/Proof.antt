@@ -8,7 +8,7 @@ use Rattle.schedule.proofs.generating.generate.Tie as tie
 use Rattle.schedule.proofs.generating.generate.Reads as reads
 use Rattle.schedule.proofs.generating.generate.Lts as lts
 use Rattle.backwards.proofs.backward.Reads as backward-reads
-use Rattle.schedule.proofs.forwards.forward.Reads as forward-reads
+use Rattle.forwards.proofs.forward.Reads as forward-reads
 use Rattle.schedule.proofs.generating.zero_dates.Reads as zero-dates-reads
 use Rattle.steps.proofs.rules.is_backward.Reads as is-backward-reads
 use Rattle.steps.proofs.rules.is_zero.Reads as is-zero-reads
@@ -59,7 +59,9 @@ same-length-6 : tie.Need-same-length-6
 same-length-6 c = search needs
 
 returns-3 : tie.Need-returns-3
-returns-3 c = generates-as (generate-forth _ _ _ (c .before .before .before .before .before .before .before .before .before .before .before .rule-in-force .ensures) (c .before .before .before .before .before .before .before .before .before .before .is-zero .result) (c .before .before .before .before .before .before .before .before .before .before .is-zero .ensures) _ (c .before .before .before .before .before .before .before .before .before .if1 .left) (c .before .before .before .before .before .before .before .before .is-backward .result) (c .before .before .before .before .before .before .before .before .is-backward .ensures) (c .before .before .before .before .before .before .before .if2 .left)) (c .before .before .before .before .forward .ensures)
+returns-3 c =
+    let s = c .before .before .before .before .before .before .before .before .before .before .before .before .before .before .before .pre in
+    generates-as (generate-forth _ _ _ (c .before .before .before .before .before .before .before .before .before .before .before .rule-in-force .ensures) (c .before .before .before .before .before .before .before .before .before .before .is-zero .result) (c .before .before .before .before .before .before .before .before .before .before .is-zero .ensures) _ (c .before .before .before .before .before .before .before .before .before .if1 .left) (c .before .before .before .before .before .before .before .before .is-backward .result) (c .before .before .before .before .before .before .before .before .is-backward .ensures) (c .before .before .before .before .before .before .before .if2 .left)) (c .before .before .before .before .forward .ensures (s .0) (s .1))
 
 pub generate-spec : {M : Type 1} → statement M
 generate-spec =

@@ -32,7 +32,7 @@ use Rattle.working.specs.Part.{Part, held, lastPut, filled, Placed, Filling}
 use Rattle.working.specs.Adding.{Adding}
 use Rattle.opening.specs.Opening.{openedBy, Open, Opens}
 use Rattle.backwards.specs.Making.{generated, Lies, Generates}
-use Rattle.schedule.specs.Begun.{opening}
+use Rattle.forwards.specs.Opened.{opening}
 use Rattle.backwards.specs.Chains.{added-given, added-refused}
 use Rattle.working.specs.Chains.{stopped, filled-part, filled-given}
 use Rattle.working.specs.Held.{newest-alone}
@@ -114,9 +114,6 @@ module _ (q : Request) (closed : List ℕ) (tries seed : ℕ) {room : ℕ} (l : 
             (rw (reverse-reverse (take n work), reverse-reverse (take n marks), tail-taken n marks (s .1)) refl);
         lies = (omega arith, t .fits, omega (arith, t), omega (arith, t));
       }
-
-pub forth-end-seed : (q : Request) (closed : List ℕ) (room tries seed seed′ : ℕ) (l : Lists) → seed ≡ seed′ → forwardEnd q closed room tries seed l ≡ forwardEnd q closed room tries seed′ l
-forth-end-seed q closed room tries seed seed′ l e = rw e refl
 
 -- ---- after the opening
 module _ {room : ℕ} {o : Answer Opened} {r : Opening} {work marks : List ℕ} (p : Opens room o r work marks) where

@@ -1,14 +1,14 @@
--- `schedule::forwards::forward_end` meets its contract.
+-- `forwards::closing::forward_end` meets its contract.
 -- Assumes nothing.
 use Rattle.steps.specs.Generate.{forwardEnd}
 use Rattle.backwards.specs.Chains.{filled-ends}
-use Rattle.schedule.proofs.Forthing.{forth-made}
+use Rattle.forwards.proofs.Forthing.{forth-made}
 use borrow.Author.Needs.{needs}
-use Rattle.schedule.proofs.forwards.forward_end.Statement.{statement}
-use Rattle.schedule.proofs.forwards.forward_end.Tie as tie
-use Rattle.schedule.proofs.forwards.forward_end.Reads as reads
-use Rattle.schedule.proofs.forwards.forward_end.Lts as lts
-use Rattle.schedule.proofs.forwards.shut.Reads as shut-reads
+use Rattle.forwards.proofs.closing.forward_end.Statement.{statement}
+use Rattle.forwards.proofs.closing.forward_end.Tie as tie
+use Rattle.forwards.proofs.closing.forward_end.Reads as reads
+use Rattle.forwards.proofs.closing.forward_end.Lts as lts
+use Rattle.forwards.proofs.closing.shut.Reads as shut-reads
 
 shut-requires : tie.Need-shut-requires
 shut-requires c κs = search needs
@@ -27,7 +27,7 @@ same-length-2 c = search needs
 
 returns : tie.Need-returns
 unfolding forwardEnd
-returns c = filled-ends (c .before .before .before .before .before .before .before .shut .ensures) _ _ (c .before .last .given .1)
+returns c = λ b k. filled-ends (c .before .before .before .before .before .before .before .shut .ensures b k) _ _ (c .before .last .given .1)
 
 same-length-3 : tie.Need-same-length-3
 same-length-3 c = search needs
@@ -36,7 +36,7 @@ same-length-4 : tie.Need-same-length-4
 same-length-4 c = search needs
 
 returns-2 : tie.Need-returns-2
-returns-2 c = forth-made _ _ _ _ _ (c .before .before .before .before .before .before .before .shut .ensures) _ (c .before .last2 .given .1)
+returns-2 c = λ b k. forth-made _ _ _ _ _ (c .before .before .before .before .before .before .before .shut .ensures b k) _ (c .before .last2 .given .1)
 
 pub forward-end-spec : {M : Type 1} → statement M
 forward-end-spec =
