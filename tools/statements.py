@@ -4,9 +4,11 @@
     tools/statements.py            writes the list, as docs/STATEMENTS.md has it
     tools/statements.py --check    says nothing, and ends with status 1 where the list in docs is another one
 
-Ends with status 1 and a line for each public function that has a `requires`, or no `ensures`. A function is public if it is
-`pub fn` in the root of a library or in modules that are `pub mod` all the way; programs have none.
+Ends with status 1 and a line for each public function that has a `requires`, no `ensures`, or fewer than two wrong programs
+that its statement rules out, and for each wrong program of no public function. A function is public if it is `pub fn` in the
+root of a library or in modules that are `pub mod` all the way; programs have none.
 """
+import glob
 import os
 import re
 import sys
@@ -17,7 +19,8 @@ HEAD = """# Statements
 
 Every public function, its statement, and the file that it stands in; made by tools/statements.py from the sources. `r` is
 the answer, `x .entry` and `x .exit` what is lent before the call and after it. A name with a capital is a record of facts, any
-other a function; both are defined in the crate's specs/, or in those of a crate below it.
+other a function; both are defined in the crate's specs/, or in those of a crate below it. What is ruled out is named by the
+edits of the crate's must-fail/ and wrong/ that make the answer wrong; each must be refused (tools/wrong).
 """
 
 
@@ -61,6 +64,16 @@ def functions():
                 yield crate, f"{owner}::{found['name']}", path, clauses
 
 
+def ruled_out():
+    """The wrong programs of each function: the names of the edits that say they are `# of` it."""
+    named = {}
+    for path in sorted(glob.glob(os.path.join(ROOT, "crates", "*", "must-fail", "*.edit")) + glob.glob(os.path.join(ROOT, "crates", "*", "wrong", "*.edit"))):
+        with open(path) as f:
+            for name in re.findall(r"^# of (.*)$", f.read(), re.M):
+                named.setdefault(name, []).append(os.path.basename(path)[: -len(".edit")])
+    return named
+
+
 def shown(clause):
     """A clause without its marks."""
     clause = re.sub(r"^λ (\w+)\. ", "", clause)
@@ -70,7 +83,7 @@ def shown(clause):
 
 def main():
     faults, out, former = [], [HEAD], None
-    count = 0
+    count, wrong = 0, ruled_out()
     for crate, name, path, clauses in functions():
         count += 1
         kinds = [kind for kind, _ in clauses]
@@ -82,8 +95,12 @@ def main():
             out.append(f"\n## {crate}\n\n")
             former = crate
         said = "; ".join(f"`{shown(text)}`" for kind, text in clauses if kind == "ensures")
-        out.append(f"- **{name}** ({path}): {said}\n")
+        edits = wrong.pop(name, [])
+        if len(edits) < 2:
+            faults.append(f"{path}: {name} has fewer than two wrong programs")
+        out.append(f"- **{name}** ({path}): {said}; ruled out: {', '.join(edits)}\n")
     out.append(f"\n{count} public functions.\n")
+    faults += [f"{name} has wrong programs ({', '.join(edits)}) and is no public function" for name, edits in wrong.items()]
     text = "".join(out)
     if "--check" in sys.argv:
         with open(LISTED) as f:
