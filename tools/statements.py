@@ -67,7 +67,7 @@ def functions():
 def ruled_out():
     """The wrong programs of each function: the names of the edits that say they are `# of` it."""
     named = {}
-    for path in sorted(glob.glob(os.path.join(ROOT, "crates", "*", "must-fail", "*.edit")) + glob.glob(os.path.join(ROOT, "crates", "*", "wrong", "*.edit"))):
+    for path in sorted(path for part in ("must-fail", "wrong") for path in glob.glob(os.path.join(ROOT, "crates", "*", part, "*.edit"))):
         with open(path) as f:
             for name in re.findall(r"^# of (.*)$", f.read(), re.M):
                 named.setdefault(name, []).append(os.path.basename(path)[: -len(".edit")])
