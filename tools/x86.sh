@@ -1,8 +1,9 @@
 # Programs for x86-64, the only machine that the library's archive is for. To be sourced; it defines names and does
 # nothing else.
 #
-#     x86_ready [PACKAGE ..]              makes sure that such programs can be built and run here, with these packages of
-#                                         Debian beside; if not, says in a line what is missing
+#     debian_packages PACKAGE ..          installs what is missing of these if it may; if some still is, prints which
+#     x86_ready                           makes sure that such programs can be built and run here; if not, prints what is
+#                                         missing
 #     x86_place FILE PROGRAM              puts a program for x86-64 where it can be run as it is
 #     x86_link COMPILER PROGRAM WORDS ..  the same for what gcc or g++ makes of the words
 #     x86_cargo WORDS ..                  cargo for x86-64; x86_release is where it leaves programs
@@ -25,29 +26,28 @@ x86_native() {
     [ -z "$x86_run" ]
 }
 
-# x86_lacking PACKAGE ..: those that are not installed.
-x86_lacking() {
+# lacking PACKAGE ..: those that are not installed.
+lacking() {
     local package
     for package in "$@"; do
         dpkg-query -W -f '${db:Status-Abbrev}' "$package" 2>/dev/null | grep -q '^ii' || echo "$package"
     done
 }
 
-x86_install() {
-    dpkg --add-architecture amd64 && apt-get update && apt-get install -y --no-install-recommends "$@"
+debian_packages() {
+    if [ -n "$(lacking "$@")" ] && [ "$(id -u)" = 0 ]; then
+        { apt-get update && apt-get install -y --no-install-recommends $(lacking "$@"); } >/dev/null 2>&1 || true
+    fi
+    [ -z "$(lacking "$@")" ] || { echo "missing Debian's packages" $(lacking "$@"); return 1; }
 }
 
 x86_ready() {
     if x86_native; then
-        command -v gcc >/dev/null || { echo "missing gcc" >&2; return 1; }
+        command -v gcc >/dev/null || { echo "missing gcc"; return 1; }
         return 0
     fi
-    set -- $x86_packages "$@"
-    command -v dpkg-query >/dev/null || { echo "missing Debian's packages $*" >&2; return 1; }
-    if [ -n "$(x86_lacking "$@")" ] && [ "$(id -u)" = 0 ]; then
-        x86_install $(x86_lacking "$@") >/dev/null 2>&1 || true
-    fi
-    [ -z "$(x86_lacking "$@")" ] || { echo "missing Debian's packages" $(x86_lacking "$@") >&2; return 1; }
+    [ "$(id -u)" != 0 ] || dpkg --add-architecture amd64 2>/dev/null || true
+    debian_packages $x86_packages
 }
 
 # x86_wrap PROGRAM: elsewhere a script of that name, which runs PROGRAM.x86-64.
