@@ -5,7 +5,6 @@
 
 bench/run builds the programs and calls this. It writes bench/results.md and the plots beside it.
 """
-import glob
 import os
 import random
 import statistics
@@ -15,6 +14,8 @@ import tempfile
 import time
 from datetime import date
 from math import log
+
+import instructions
 
 HERE = os.path.dirname(os.path.abspath(__file__))
 TARGET = os.path.join(HERE, "..", "target")
@@ -69,15 +70,13 @@ SMALL = {
 }
 
 
-# Callgrind counts every byte of a repeated store as an instruction; without them memset stores in wide steps.
-NO_REPEATS = "glibc.cpu.x86_rep_stosb_threshold=1000000:glibc.cpu.x86_rep_movsb_threshold=1000000"
+def path_of(name):
+    return os.path.join(TARGET, PROGRAMS[name])
 
 
-def run(name, words, lines, under=()):
-    program = os.path.join(TARGET, PROGRAMS[name])
-    settings = {"LD_BIND_NOW": "1", **({"GLIBC_TUNABLES": NO_REPEATS} if under else {})}
-    done = subprocess.run([*under, program, *words], input="\n".join(lines) + "\n", capture_output=True, text=True,
-                          env={**os.environ, **settings})
+def run(name, words, lines):
+    done = subprocess.run([path_of(name), *words], input="\n".join(lines) + "\n", capture_output=True, text=True,
+                          env={**os.environ, **instructions.TIMING})
     if done.returncode:
         sys.exit(f"bench: {name} stopped: {done.stderr.strip()}")
     return done.stdout.split("\n")[:-1]
@@ -114,19 +113,16 @@ def over_ours(row, name):
 
 
 def counted(name, lines):
-    """Instructions of the second of two calls, by callgrind, for the lines that the program answers."""
+    """Instructions of the second of two calls, for the lines that the program answers."""
     answered = [i for i, answer in enumerate(run(name, ["--once"], lines)) if answer not in NONE]
-    with tempfile.TemporaryDirectory() as folder:
-        out = os.path.join(folder, "out")
-        under = ["valgrind", "--tool=callgrind", "--toggle-collect=measured", "--dump-after=measured",
-                 f"--callgrind-out-file={out}"]
-        run(name, ["--once"], [lines[i] for i in answered], under)
-        dumps = sorted(glob.glob(out + ".*"), key=lambda path: int(path.rsplit(".", 1)[1]))
-        totals = [int(line.split()[1]) for path in dumps for line in open(path) if line.startswith("summary:")]
-        totals = [n for n in totals if n]
-        if len(totals) != 2 * len(answered):
-            sys.exit(f"bench: {len(totals)} counts of {name} for {len(answered)} questions")
-        return {i: totals[2 * at + 1] for at, i in enumerate(answered)}
+    with tempfile.TemporaryFile("w+") as questions:
+        questions.write("\n".join(lines[i] for i in answered) + "\n")
+        questions.flush()
+        questions.seek(0)
+        counts = instructions.of_calls(path_of(name), ["--once"], questions)
+    if len(counts) != 2 * len(answered):
+        sys.exit(f"bench: {len(counts)} counts of {name} for {len(answered)} questions")
+    return {i: counts[2 * at + 1] for at, i in enumerate(answered)}
 
 
 def fixed_cost(passes):
@@ -258,10 +254,10 @@ def main():
     progress(f"{len(said)} answers are the same")
     rows = timed(builds + small, passes, ROUNDS)
     progress("timed")
-    instructions = [{} for _ in rows]
+    executed = [{} for _ in rows]
     for name in PROGRAMS:
         for i, n in counted(name, builds + small).items():
-            instructions[i][name] = n
+            executed[i][name] = n
         progress(f"instructions of {name} counted")
     weekly = plot("dates.svg", "a weekly build, by the number of its dates (null calendar)", "dates", *by_dates("W", 7))
     daily = plot("days.svg", "a daily build, by the number of its dates (null calendar)", "dates", *by_dates("D", 1))
@@ -271,12 +267,13 @@ def main():
     edge = len(builds)
     show = "{:,}".format
     lines = ["# Measured", "", "Written by `bench/run`; bench/README.md says what the figures mean.", "",
+             instructions.machine(), "",
              "## Builds: time of one build", "", *table(BUILDS, rows[:edge], figure, counts), "",
              f"The fixed cost of a build of ours is that of one date, {figure(rows[edge - 1]['ours'])} and "
-             f"{instructions[edge - 1]['ours']:,} instructions. {fixed_cost(passes)}", "",
-             "## Builds: instructions of one build", "", *table(BUILDS, instructions[:edge], show, counts), "",
+             f"{executed[edge - 1]['ours']:,} instructions. {fixed_cost(passes)}", "",
+             "## Builds: instructions of one build", "", *table(BUILDS, executed[:edge], show, counts), "",
              "## Calls: time of one call", "", *table(SMALL, rows[edge:], figure), "",
-             "## Calls: instructions of one call", "", *table(SMALL, instructions[edge:], show), "",
+             "## Calls: instructions of one call", "", *table(SMALL, executed[edge:], show), "",
              "## Builds that fall short of an aim, by time", "", *shortfalls(BUILDS, rows[:edge], counts), "",
              "## By the number of dates, weekly (dates.svg)", "", *plot_table("dates", weekly), "",
              "## By the number of dates, daily (days.svg)", "", *plot_table("dates", daily), "",

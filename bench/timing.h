@@ -51,6 +51,7 @@ static void print_times(call made, void *with)
         measured(made, with);
         return;
     }
+    round_of(made, with, 1); /* An emulator translates the code in it. */
     double once = round_of(made, with, 1);
     long calls = once >= ROUND_NS ? 1 : (long)(ROUND_NS / (once + 1)) + 1;
     for (int i = 0; i < rounds; i++)

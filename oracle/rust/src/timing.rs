@@ -51,6 +51,7 @@ fn timed<T>(rounds: usize, mut call: impl FnMut() -> T, say: impl FnOnce(T) -> S
         measured(&mut made);
         measured(&mut made);
     } else {
+        round(&mut made, 1); // An emulator translates the code in it.
         let once = round(&mut made, 1);
         let calls = if once >= ROUND_NS { 1 } else { (ROUND_NS / (once + 1.0)) as u32 + 1 };
         let mut took: Vec<f64> = (0..rounds).map(|_| round(&mut made, calls)).collect();
