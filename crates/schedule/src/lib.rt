@@ -13,7 +13,6 @@ ghost use Rattle.finish.specs.Finishing.{scheduled};
 use backwards::Generated;
 use steps::Built;
 use steps::Request;
-use steps::table;
 
 // The dates of a build, by its rule.
 mod generating;
@@ -101,7 +100,7 @@ fn run(
 pub fn build(q: Request, closed: &[u32], dates: &mut [u32], flags: &mut [u8]) -> Built
     ensures { λ r. ⌜ Written q (buildOf q (now (closed .entry)) (length (now (dates .entry))) (length (now (flags .entry)))) r (now (dates .entry)) (now (flags .entry)) (now (dates .exit)) (now (flags .exit)) ⌝ }
 {
-    let number = table::input_refusal(q, closed, dates.len(), flags.len());
+    let number = checks::input_refusal(q, closed, dates.len(), flags.len());
     if number != 0 {
         return finish::refused(number);
     }

@@ -1,10 +1,11 @@
 // A request for a schedule, and the steps that a build is made of.
 ghost use mathlib.Core.Path.{_≡_};
-ghost use Rattle.date.specs.Date.{dated, inBook};
+ghost use Rattle.date.specs.Date.{dated};
 ghost use Rattle.steps.specs.Twentieths.{nextTwentiethOf, previousTwentiethOf};
 use calendar::Convention;
 use date::Date;
 use date::Dated;
+use date::in_book;
 use period::Period;
 
 // The groups of rules, and the rule and the tenor in force.
@@ -13,8 +14,6 @@ pub mod rules;
 mod tenors;
 // The twentieths, for days that may lie beyond the book.
 pub mod twentieths;
-// The input checks.
-pub mod table;
 // What becomes of a date after generating.
 pub mod moves;
 // The seed that candidates are counted from.
@@ -82,13 +81,6 @@ pub struct Built {
     pub tries: u32,
     pub rule: Rule,
     pub tenor: Period,
-}
-
-// A date that is given to a customer's function lies in the book.
-pub(crate) fn in_book(day: u32) -> bool
-    ensures { λ r. ⌜ r ≡ inBook day ⌝ }
-{
-    Date::FIRST.day <= day && day <= Date::LAST.day
 }
 
 // The first twentieth on or after the date, for the rules of IMM months that of March, June, September or December.

@@ -10,7 +10,7 @@ use Rattle.schedule.proofs.build.Lts as lts
 use Rattle.finish.proofs.refused.Reads as refused-reads
 use Rattle.schedule.proofs.least.Reads as least-reads
 use Rattle.schedule.proofs.run.Reads as run-reads
-use Rattle.steps.proofs.table.input_refusal.Reads as input-refusal-reads
+use Rattle.checks.proofs.input_refusal.Reads as input-refusal-reads
 
 input-refusal-requires : tie.Need-input-refusal-requires
 input-refusal-requires c κs = search needs

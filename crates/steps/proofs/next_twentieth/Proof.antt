@@ -8,7 +8,7 @@ use Rattle.steps.proofs.next_twentieth.Statement.{statement}
 use Rattle.steps.proofs.next_twentieth.Tie as tie
 use Rattle.steps.proofs.next_twentieth.Reads as reads
 use Rattle.steps.proofs.next_twentieth.Lts as lts
-use Rattle.steps.proofs.in_book.Reads as in-book-reads
+use Rattle.date.proofs.in_book.Reads as in-book-reads
 use Rattle.steps.proofs.twentieths.next.Reads as next-reads
 
 in-book-requires : tie.Need-in-book-requires
