@@ -1,44 +1,15 @@
--- A count in the first place of a lent list: a law for each way.
+-- A count in a lent list that a call gave, handed on.
 -- Assumes nothing.
-use Prim.Native.Nat.{ℕ, _≤_, _<_}
-use mathlib.Core.Path.{_≡_, refl, ap, sym, _∙_}
-use mathlib.Core.Bool.{true, false}
+use Prim.Native.Nat.{_<_}
+use mathlib.Core.Path.{_≡_}
 use mathlib.Core.List.{List}
-use lib.Dec.{leb}
-use lib.IntN.{ℤ, pos, negℤ}
-use lib.ListN.{length, set}
+use lib.IntN.{ℤ}
 use lib.Signed.{mag}
-use mir.Syntax.{w32, w64}
-use mir.Val.{SFits, toZ, ofZ}
-use borrow.Author.Tests.{le-leb, lt-leb}
-use Rattle.refusal.specs.Answer.{Answer, given, refused, need}
-use Rattle.refusal.specs.Laws.{fails, holds}
-use Rattle.period.specs.Signed.{same32}
-use Rattle.capi.specs.Answers.{oneNumber, done, withPlace, placed, Placed}
-use Rattle.capi.proofs.Calls.{handed, told-given, told-refused}
-
-module _ (a : Answer ℤ) (list : List ℤ) {r : ℤ} (s : mag r < 9223372036854775808) where
-  pub place-short : length list < 1 → r ≡ negℤ (pos 14) → Placed a (toZ w64 (ofZ w64 r)) list list
-  unfolding withPlace placed
-  place-short h e =
-      let o : refused 14 ≡ withPlace list a = fails 14 _ _ (lt-leb 1 (length list) h) in
-      record { answer = told-refused done s _ 14 e o; list-after = ap (λ (y : Answer ℤ). placed y list) o }
-
-  module _ (h : 1 ≤ length list) where
-    pub place-refused : (n : ℕ) → a ≡ refused n → r ≡ negℤ (pos n) → Placed a (toZ w64 (ofZ w64 r)) list list
-    unfolding withPlace placed
-    place-refused n p e =
-        let o : refused n ≡ withPlace list a = holds 14 _ _ _ (le-leb 1 (length list) h) (sym p) in
-        record { answer = told-refused done s _ n e o; list-after = ap (λ (y : Answer ℤ). placed y list) o }
-
-    pub place-given : (z : ℤ) → SFits w32 z → a ≡ given z → r ≡ pos 0 → Placed a (toZ w64 (ofZ w64 r)) list (set list 0 (toZ w32 (ofZ w32 z)))
-    unfolding withPlace placed
-    place-given z f p e =
-        let o : given z ≡ withPlace list a = holds 14 _ _ _ (le-leb 1 (length list) h) (sym p) in
-        record {
-          answer = told-given done s _ z e o;
-          list-after = rw (same32 z f) (ap (λ (y : Answer ℤ). placed y list) o);
-        }
+use mir.Syntax.{w64}
+use mir.Val.{toZ, ofZ}
+use Rattle.refusal.specs.Answer.{Answer}
+use Rattle.crossing.specs.Answers.{Placed}
+use Rattle.crossing.specs.Calls.{handed}
 
 pub placed-as : {list list′ : List ℤ} {r : ℤ} (a b : Answer ℤ) → mag r < 9223372036854775808 → a ≡ b → Placed a r list list′ → Placed b (toZ w64 (ofZ w64 r)) list list′
 placed-as {r = r} a b s e p = rw (← e) (record { answer = handed r s (p .answer); list-after = p .list-after })

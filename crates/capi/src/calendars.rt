@@ -2,13 +2,12 @@
 ghost use mathlib.Core.Path.{_≡_};
 ghost use Rattle.refusal.specs.Answer.{then};
 ghost use Rattle.calendar.specs.Calendar.{checkOf, isOpenOf, adjustOf, lastOpenOf, isMonthEndOf, advancedOf};
-ghost use Rattle.capi.specs.Answers.{oneNumber, itself, yes, done};
-ghost use Rattle.capi.specs.Numbers.{unitOf, conventionOf, flagOf};
-use crate::answers;
-use crate::numbers;
-use crate::numbers::NamedConvention;
-use crate::numbers::NamedFlag;
-use crate::numbers::NamedUnit;
+ghost use Rattle.crossing.specs.Answers.{oneNumber, itself, yes, done};
+ghost use Rattle.crossing.specs.Numbers.{unitOf, conventionOf, flagOf};
+use crossing::NamedConvention;
+use crossing::NamedFlag;
+use crossing::NamedUnit;
+use crossing::answers;
 use date::Date;
 use period::Period;
 
@@ -32,7 +31,7 @@ pub extern "C" fn heronspan_is_open(day: u32, mask: u8, closed: &[u32]) -> i64
 pub extern "C" fn heronspan_adjust(day: u32, convention: u8, mask: u8, closed: &[u32]) -> i64
     ensures { λ r. ⌜ r ≡ oneNumber itself (then (conventionOf convention) (λ c. adjustOf mask (now (closed .entry)) c day)) ⌝ }
 {
-    let named = numbers::convention_of(convention);
+    let named = crossing::convention_of(convention);
     match named {
         NamedConvention::Is(c) => answers::of_dated(calendar::adjust(
             Date { day },
@@ -73,15 +72,15 @@ pub extern "C" fn heronspan_calendar_advance(
 ) -> i64
     ensures { λ r. ⌜ r ≡ oneNumber itself (then (unitOf unit) (λ u. then (conventionOf convention) (λ c. then (flagOf monthend) (λ m. advancedOf mask (now (closed .entry)) tenor u c m day)))) ⌝ }
 {
-    let unit = match numbers::unit_of(unit) {
+    let unit = match crossing::unit_of(unit) {
         NamedUnit::Is(u) => u,
         NamedUnit::Refused(n) => return answers::minus(n),
     };
-    let convention = match numbers::convention_of(convention) {
+    let convention = match crossing::convention_of(convention) {
         NamedConvention::Is(c) => c,
         NamedConvention::Refused(n) => return answers::minus(n),
     };
-    let monthend = match numbers::flag_of(monthend) {
+    let monthend = match crossing::flag_of(monthend) {
         NamedFlag::Is(m) => m,
         NamedFlag::Refused(n) => return answers::minus(n),
     };

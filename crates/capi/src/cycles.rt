@@ -3,12 +3,11 @@ ghost use mathlib.Core.Path.{_≡_};
 ghost use Rattle.refusal.specs.Answer.{given, then};
 ghost use Rattle.imm.specs.Imm.{isImmIn, isCode, codeIn, dateIn, nextIn, nextWithCode, nextCodeIn, nextCodeWithCode};
 ghost use Rattle.steps.specs.Twentieths.{nextTwentiethOf, previousTwentiethOf};
-ghost use Rattle.capi.specs.Answers.{oneNumber, itself, yes, twoBytes};
-ghost use Rattle.capi.specs.Numbers.{flagOf, ruleOf};
-use crate::answers;
-use crate::numbers;
-use crate::numbers::NamedFlag;
-use crate::numbers::NamedRule;
+ghost use Rattle.crossing.specs.Answers.{oneNumber, itself, yes, twoBytes};
+ghost use Rattle.crossing.specs.Numbers.{flagOf, ruleOf};
+use crossing::NamedFlag;
+use crossing::NamedRule;
+use crossing::answers;
 use date::Date;
 
 // 1 where the day is an IMM date, 0 where it is not.
@@ -16,7 +15,7 @@ use date::Date;
 pub extern "C" fn heronspan_is_imm_date(day: u32, main: u8) -> i64
     ensures { λ r. ⌜ r ≡ oneNumber yes (then (flagOf main) (λ m. isImmIn m day)) ⌝ }
 {
-    let named = numbers::flag_of(main);
+    let named = crossing::flag_of(main);
     match named {
         NamedFlag::Is(m) => answers::of_tested(imm::is_imm_date(Date { day }, m)),
         NamedFlag::Refused(n) => answers::minus(n),
@@ -28,7 +27,7 @@ pub extern "C" fn heronspan_is_imm_date(day: u32, main: u8) -> i64
 pub extern "C" fn heronspan_is_imm_code(code: &[u8], main: u8) -> i64
     ensures { λ r. ⌜ r ≡ oneNumber yes (then (flagOf main) (λ m. given (isCode m (now (code .entry))))) ⌝ }
 {
-    let named = numbers::flag_of(main);
+    let named = crossing::flag_of(main);
     match named {
         NamedFlag::Is(m) => answers::truth(imm::is_imm_code(code, m)),
         NamedFlag::Refused(n) => answers::minus(n),
@@ -56,7 +55,7 @@ pub extern "C" fn heronspan_imm_date(code: &[u8], day: u32) -> i64
 pub extern "C" fn heronspan_next_imm_date(day: u32, main: u8) -> i64
     ensures { λ r. ⌜ r ≡ oneNumber itself (then (flagOf main) (λ m. nextIn m day)) ⌝ }
 {
-    let named = numbers::flag_of(main);
+    let named = crossing::flag_of(main);
     match named {
         NamedFlag::Is(m) => answers::of_dated(imm::next_date(Date { day }, m)),
         NamedFlag::Refused(n) => answers::minus(n),
@@ -68,7 +67,7 @@ pub extern "C" fn heronspan_next_imm_date(day: u32, main: u8) -> i64
 pub extern "C" fn heronspan_next_imm_date_with_code(code: &[u8], main: u8, day: u32) -> i64
     ensures { λ r. ⌜ r ≡ oneNumber itself (then (flagOf main) (λ m. nextWithCode (now (code .entry)) m day)) ⌝ }
 {
-    let named = numbers::flag_of(main);
+    let named = crossing::flag_of(main);
     match named {
         NamedFlag::Is(m) => answers::of_dated(imm::next_date_with_code(code, m, Date { day })),
         NamedFlag::Refused(n) => answers::minus(n),
@@ -80,7 +79,7 @@ pub extern "C" fn heronspan_next_imm_date_with_code(code: &[u8], main: u8, day: 
 pub extern "C" fn heronspan_next_imm_code(day: u32, main: u8) -> i64
     ensures { λ r. ⌜ r ≡ oneNumber twoBytes (then (flagOf main) (λ m. nextCodeIn m day)) ⌝ }
 {
-    let named = numbers::flag_of(main);
+    let named = crossing::flag_of(main);
     match named {
         NamedFlag::Is(m) => answers::of_coded(imm::next_code(Date { day }, m)),
         NamedFlag::Refused(n) => answers::minus(n),
@@ -92,7 +91,7 @@ pub extern "C" fn heronspan_next_imm_code(day: u32, main: u8) -> i64
 pub extern "C" fn heronspan_next_imm_code_with_code(code: &[u8], main: u8, day: u32) -> i64
     ensures { λ r. ⌜ r ≡ oneNumber twoBytes (then (flagOf main) (λ m. nextCodeWithCode (now (code .entry)) m day)) ⌝ }
 {
-    let named = numbers::flag_of(main);
+    let named = crossing::flag_of(main);
     match named {
         NamedFlag::Is(m) => answers::of_coded(imm::next_code_with_code(code, m, Date { day })),
         NamedFlag::Refused(n) => answers::minus(n),
@@ -104,7 +103,7 @@ pub extern "C" fn heronspan_next_imm_code_with_code(code: &[u8], main: u8, day: 
 pub extern "C" fn heronspan_next_twentieth(day: u32, rule: u8) -> i64
     ensures { λ r. ⌜ r ≡ oneNumber itself (then (ruleOf rule) (λ k. nextTwentiethOf k day)) ⌝ }
 {
-    let named = numbers::rule_of(rule);
+    let named = crossing::rule_of(rule);
     match named {
         NamedRule::Is(k) => answers::of_dated(steps::next_twentieth(Date { day }, k)),
         NamedRule::Refused(n) => answers::minus(n),
@@ -116,7 +115,7 @@ pub extern "C" fn heronspan_next_twentieth(day: u32, rule: u8) -> i64
 pub extern "C" fn heronspan_previous_twentieth(day: u32, rule: u8) -> i64
     ensures { λ r. ⌜ r ≡ oneNumber itself (then (ruleOf rule) (λ k. previousTwentiethOf k day)) ⌝ }
 {
-    let named = numbers::rule_of(rule);
+    let named = crossing::rule_of(rule);
     match named {
         NamedRule::Is(k) => answers::of_dated(steps::previous_twentieth(Date { day }, k)),
         NamedRule::Refused(n) => answers::minus(n),

@@ -2,11 +2,10 @@
 ghost use mathlib.Core.Path.{_≡_};
 ghost use Rattle.refusal.specs.Answer.{then};
 ghost use Rattle.date.specs.Date.{makeOf, fieldsIn, weekdayIn, monthEndOf, advanceOf, nextWeekdayOf, nthWeekdayOf, compareOf};
-ghost use Rattle.capi.specs.Answers.{oneNumber, itself, digits, place};
-ghost use Rattle.capi.specs.Numbers.{unitOf};
-use crate::answers;
-use crate::numbers;
-use crate::numbers::NamedUnit;
+ghost use Rattle.crossing.specs.Answers.{oneNumber, itself, digits, place};
+ghost use Rattle.crossing.specs.Numbers.{unitOf};
+use crossing::NamedUnit;
+use crossing::answers;
 use date::Date;
 
 // The day number of a civil date.
@@ -47,7 +46,7 @@ pub extern "C" fn heronspan_month_end(day: u32) -> i64
 pub extern "C" fn heronspan_advance(day: u32, count: i32, unit: u8) -> i64
     ensures { λ r. ⌜ r ≡ oneNumber itself (then (unitOf unit) (advanceOf day count)) ⌝ }
 {
-    let named = numbers::unit_of(unit);
+    let named = crossing::unit_of(unit);
     match named {
         NamedUnit::Is(u) => {
             let date = Date { day };

@@ -1,10 +1,6 @@
 // The functions that other languages call. Each answers in one number, zero or more for a value and below zero for minus a
 // refusal; a slice is a pointer and a length to the caller.
 
-// Numbers that stand for units, rules, conventions and flags.
-mod numbers;
-// Answers as one number.
-mod answers;
 // Dates.
 pub mod dates;
 // Schedules.

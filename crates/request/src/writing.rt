@@ -5,7 +5,6 @@ ghost use mathlib.Core.List.{[], _∷_, _++_};
 ghost use Prim.Native.Nat.{_+_, _*_, _≤_, _<_};
 ghost use lib.ListN.{length};
 ghost use Rattle.steps.specs.Build.{over};
-ghost use Rattle.steps.specs.Rules.{ruleNumber};
 ghost use Rattle.request.specs.Encode.{bytes4, headOf, spelt, fits16, letterOf, conventionNumber, bit, tenorBody, datesIn, sayable, bytesOf, laid, datesPart, choicesPart, anchorsPart, closedPart};
 ghost use Rattle.request.specs.Places.{Bits};
 use calendar::Convention;
@@ -13,7 +12,6 @@ use period::Period;
 use period::Unit;
 use period::sign;
 use steps::Request;
-use steps::Rule;
 
 // Whether sixteen bits hold a number with its sign.
 fn fits_sixteen(n: i32) -> bool
@@ -48,23 +46,6 @@ fn letter_of(unit: Unit) -> u8
         Unit::Weeks => b'W',
         Unit::Months => b'M',
         Unit::Years => b'Y',
-    }
-}
-
-fn rule_number(rule: Rule) -> u8
-    ensures { λ r. ⌜ r ≡ ruleNumber rule ⌝ }
-{
-    match rule {
-        Rule::Zero => 0,
-        Rule::Backward => 1,
-        Rule::Forward => 2,
-        Rule::Twentieth => 3,
-        Rule::TwentiethIMM => 4,
-        Rule::ThirdWednesday => 5,
-        Rule::ThirdWednesdayInclusive => 6,
-        Rule::OldCDS => 7,
-        Rule::CDS => 8,
-        Rule::CDS2015 => 9,
     }
 }
 
@@ -171,7 +152,7 @@ fn put_choices(q: Request, out: &mut [u8])
     let rule = q.rule;
     let convention = q.convention;
     let terminal = q.terminal;
-    put_byte(out, 20, 4, rule_number(rule));
+    put_byte(out, 20, 4, crossing::rule_number(rule));
     put_byte(out, 24, 5, convention_number(convention));
     put_byte(out, 28, 6, convention_number(terminal));
     put_byte(out, 32, 7, bit_of(q.monthend));

@@ -1,21 +1,21 @@
 -- `capi::builds::heronspan_build` meets its contract.
 -- Assumes nothing.
-use Rattle.capi.specs.Builds.{requestOf}
-use Rattle.capi.proofs.Calls.{same-count}
-use Rattle.capi.proofs.Recording.{reported-as}
+use Rattle.crossing.specs.Requests.{requestOf}
+use Rattle.crossing.specs.Calls.{same-count}
+use Rattle.report.specs.Handed.{reported-as}
 use borrow.Author.Needs.{needs}
 use Rattle.capi.proofs.builds.heronspan_build.Statement.{statement}
 use Rattle.capi.proofs.builds.heronspan_build.Tie as tie
 use Rattle.capi.proofs.builds.heronspan_build.Reads as reads
 use Rattle.capi.proofs.builds.heronspan_build.Lts as lts
-use Rattle.capi.proofs.builds.build_asked.Reads as build-asked-reads
-use Rattle.capi.proofs.builds.request_of.Reads as request-of-reads
+use Rattle.report.proofs.build.Reads as build-reads
+use Rattle.crossing.proofs.requests.request_of.Reads as request-of-reads
 
 request-of-requires : tie.Need-request-of-requires
 request-of-requires c κs = search needs
 
-build-asked-requires : tie.Need-build-asked-requires
-build-asked-requires c κs = search needs
+build-requires : tie.Need-build-requires
+build-requires c κs = search needs
 
 same-length : tie.Need-same-length
 same-length c = search needs
@@ -31,16 +31,16 @@ returns c =
     let built = c .before .before .before .before .before .before in
     let request = built .before .before .before .before in
     let start = request .before .before .before .before .before in
-    reported-as _ _ (built .build-asked .ok)
+    reported-as _ _ (built .build .ok)
     (same-count (λ z. requestOf (start .args .effective) (start .args .termination) z (start .args .unit) (start .args .rule) (start .args .convention) (start .args .terminal) (start .args .monthend) (start .args .first) (start .args .penultimate) (start .args .mask)) _ _ (start .fits .tenor) (request .request-of .ensures))
-    (built .build-asked .ensures)
+    (built .build .ensures)
 
 pub heronspan-build-spec : {M : Type 1} → statement M
 heronspan-build-spec =
     tie.close
     (tie.spec
     request-of-requires
-    build-asked-requires
+    build-requires
     same-length
     same-length-2
     same-length-3

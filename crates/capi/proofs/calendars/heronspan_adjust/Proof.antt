@@ -1,16 +1,16 @@
 -- `capi::calendars::heronspan_adjust` meets its contract.
 -- Assumes nothing.
-use Rattle.capi.specs.Answers.{itself}
-use Rattle.capi.proofs.Calls.{told, told-refused, named, unnamed, convention-named, convention-unnamed}
+use Rattle.crossing.specs.Answers.{itself}
+use Rattle.crossing.specs.Calls.{told, told-refused, named, unnamed, convention-named, convention-unnamed}
 use borrow.Author.Needs.{needs}
 use Rattle.capi.proofs.calendars.heronspan_adjust.Statement.{statement}
 use Rattle.capi.proofs.calendars.heronspan_adjust.Tie as tie
 use Rattle.capi.proofs.calendars.heronspan_adjust.Reads as reads
 use Rattle.capi.proofs.calendars.heronspan_adjust.Lts as lts
 use Rattle.calendar.proofs.adjust.Reads as adjust-reads
-use Rattle.capi.proofs.answers.minus.Reads as minus-reads
-use Rattle.capi.proofs.answers.of_dated.Reads as of-dated-reads
-use Rattle.capi.proofs.numbers.convention_of.Reads as convention-of-reads
+use Rattle.crossing.proofs.answers.minus.Reads as minus-reads
+use Rattle.crossing.proofs.answers.of_dated.Reads as of-dated-reads
+use Rattle.crossing.proofs.convention_of.Reads as convention-of-reads
 
 convention-of-requires : tie.Need-convention-of-requires
 convention-of-requires c κs = search needs

@@ -1,19 +1,19 @@
 -- `capi::calendars::heronspan_calendar_advance` meets its contract.
 -- Assumes nothing.
 use Rattle.calendar.specs.Calendar.{advancedOf}
-use Rattle.capi.specs.Answers.{itself}
-use Rattle.capi.proofs.Calls.{told, told-refused, named, unnamed, unit-named, unit-unnamed, convention-named, convention-unnamed, flag-named, flag-unnamed, same-count}
+use Rattle.crossing.specs.Answers.{itself}
+use Rattle.crossing.specs.Calls.{told, told-refused, named, unnamed, unit-named, unit-unnamed, convention-named, convention-unnamed, flag-named, flag-unnamed, same-count}
 use borrow.Author.Needs.{needs}
 use Rattle.capi.proofs.calendars.heronspan_calendar_advance.Statement.{statement}
 use Rattle.capi.proofs.calendars.heronspan_calendar_advance.Tie as tie
 use Rattle.capi.proofs.calendars.heronspan_calendar_advance.Reads as reads
 use Rattle.capi.proofs.calendars.heronspan_calendar_advance.Lts as lts
 use Rattle.calendar.proofs.advance.Reads as advance-reads
-use Rattle.capi.proofs.answers.minus.Reads as minus-reads
-use Rattle.capi.proofs.answers.of_dated.Reads as of-dated-reads
-use Rattle.capi.proofs.numbers.convention_of.Reads as convention-of-reads
-use Rattle.capi.proofs.numbers.flag_of.Reads as flag-of-reads
-use Rattle.capi.proofs.numbers.unit_of.Reads as unit-of-reads
+use Rattle.crossing.proofs.answers.minus.Reads as minus-reads
+use Rattle.crossing.proofs.answers.of_dated.Reads as of-dated-reads
+use Rattle.crossing.proofs.convention_of.Reads as convention-of-reads
+use Rattle.crossing.proofs.flag_of.Reads as flag-of-reads
+use Rattle.crossing.proofs.unit_of.Reads as unit-of-reads
 
 unit-of-requires : tie.Need-unit-of-requires
 unit-of-requires c κs = search needs

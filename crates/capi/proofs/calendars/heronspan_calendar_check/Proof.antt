@@ -1,14 +1,14 @@
 -- `capi::calendars::heronspan_calendar_check` meets its contract.
 -- Assumes nothing.
-use Rattle.capi.specs.Answers.{done}
-use Rattle.capi.proofs.Calls.{told}
+use Rattle.crossing.specs.Answers.{done}
+use Rattle.crossing.specs.Calls.{told}
 use borrow.Author.Needs.{needs}
 use Rattle.capi.proofs.calendars.heronspan_calendar_check.Statement.{statement}
 use Rattle.capi.proofs.calendars.heronspan_calendar_check.Tie as tie
 use Rattle.capi.proofs.calendars.heronspan_calendar_check.Reads as reads
 use Rattle.capi.proofs.calendars.heronspan_calendar_check.Lts as lts
 use Rattle.calendar.proofs.check.Reads as check-reads
-use Rattle.capi.proofs.answers.of_checked.Reads as of-checked-reads
+use Rattle.crossing.proofs.answers.of_checked.Reads as of-checked-reads
 
 check-requires : tie.Need-check-requires
 check-requires c κs = search needs

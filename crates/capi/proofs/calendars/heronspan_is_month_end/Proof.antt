@@ -1,14 +1,14 @@
 -- `capi::calendars::heronspan_is_month_end` meets its contract.
 -- Assumes nothing.
-use Rattle.capi.specs.Answers.{yes}
-use Rattle.capi.proofs.Calls.{told}
+use Rattle.crossing.specs.Answers.{yes}
+use Rattle.crossing.specs.Calls.{told}
 use borrow.Author.Needs.{needs}
 use Rattle.capi.proofs.calendars.heronspan_is_month_end.Statement.{statement}
 use Rattle.capi.proofs.calendars.heronspan_is_month_end.Tie as tie
 use Rattle.capi.proofs.calendars.heronspan_is_month_end.Reads as reads
 use Rattle.capi.proofs.calendars.heronspan_is_month_end.Lts as lts
 use Rattle.calendar.proofs.is_month_end.Reads as is-month-end-reads
-use Rattle.capi.proofs.answers.of_decided.Reads as of-decided-reads
+use Rattle.crossing.proofs.answers.of_decided.Reads as of-decided-reads
 
 is-month-end-requires : tie.Need-is-month-end-requires
 is-month-end-requires c κs = search needs

@@ -1,14 +1,14 @@
 -- `capi::calendars::heronspan_is_open` meets its contract.
 -- Assumes nothing.
-use Rattle.capi.specs.Answers.{yes}
-use Rattle.capi.proofs.Calls.{told}
+use Rattle.crossing.specs.Answers.{yes}
+use Rattle.crossing.specs.Calls.{told}
 use borrow.Author.Needs.{needs}
 use Rattle.capi.proofs.calendars.heronspan_is_open.Statement.{statement}
 use Rattle.capi.proofs.calendars.heronspan_is_open.Tie as tie
 use Rattle.capi.proofs.calendars.heronspan_is_open.Reads as reads
 use Rattle.capi.proofs.calendars.heronspan_is_open.Lts as lts
 use Rattle.calendar.proofs.is_open.Reads as is-open-reads
-use Rattle.capi.proofs.answers.of_decided.Reads as of-decided-reads
+use Rattle.crossing.proofs.answers.of_decided.Reads as of-decided-reads
 
 is-open-requires : tie.Need-is-open-requires
 is-open-requires c κs = search needs

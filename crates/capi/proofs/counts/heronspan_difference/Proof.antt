@@ -6,7 +6,7 @@ use Rattle.capi.proofs.counts.heronspan_difference.Statement.{statement
 use Rattle.capi.proofs.counts.heronspan_difference.Tie as tie
 use Rattle.capi.proofs.counts.heronspan_difference.Reads as reads
 use Rattle.capi.proofs.counts.heronspan_difference.Lts as lts
-use Rattle.capi.proofs.counts.put_counted.Reads as put-counted-reads
+use Rattle.crossing.proofs.counts.put_counted.Reads as put-counted-reads
 use Rattle.date.proofs.Date.difference.Reads as difference-reads
 
 difference-requires : tie.Need-difference-requires

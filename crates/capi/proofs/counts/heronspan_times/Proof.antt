@@ -2,17 +2,17 @@
 -- Assumes nothing.
 use Rattle.refusal.specs.Answer.{then}
 use Rattle.period.specs.Period.{timesOf}
-use Rattle.capi.specs.Answers.{lengthIn}
-use Rattle.capi.specs.Numbers.{unitOf}
-use Rattle.capi.proofs.Calls.{same-two}
+use Rattle.crossing.specs.Answers.{lengthIn}
+use Rattle.crossing.specs.Numbers.{unitOf}
+use Rattle.crossing.specs.Calls.{same-two}
 use Rattle.capi.proofs.Counting.{placed-as}
 use borrow.Author.Needs.{needs}
 use Rattle.capi.proofs.counts.heronspan_times.Statement.{statement}
 use Rattle.capi.proofs.counts.heronspan_times.Tie as tie
 use Rattle.capi.proofs.counts.heronspan_times.Reads as reads
 use Rattle.capi.proofs.counts.heronspan_times.Lts as lts
-use Rattle.capi.proofs.counts.put_counted.Reads as put-counted-reads
-use Rattle.capi.proofs.counts.times.Reads as times-reads
+use Rattle.crossing.proofs.counts.put_counted.Reads as put-counted-reads
+use Rattle.crossing.proofs.counts.times.Reads as times-reads
 
 times-requires : tie.Need-times-requires
 times-requires c κs = search needs

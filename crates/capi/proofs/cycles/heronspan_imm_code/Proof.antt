@@ -1,13 +1,13 @@
 -- `capi::cycles::heronspan_imm_code` meets its contract.
 -- Assumes nothing.
-use Rattle.capi.specs.Answers.{twoBytes}
-use Rattle.capi.proofs.Calls.{told}
+use Rattle.crossing.specs.Answers.{twoBytes}
+use Rattle.crossing.specs.Calls.{told}
 use borrow.Author.Needs.{needs}
 use Rattle.capi.proofs.cycles.heronspan_imm_code.Statement.{statement}
 use Rattle.capi.proofs.cycles.heronspan_imm_code.Tie as tie
 use Rattle.capi.proofs.cycles.heronspan_imm_code.Reads as reads
 use Rattle.capi.proofs.cycles.heronspan_imm_code.Lts as lts
-use Rattle.capi.proofs.answers.of_coded.Reads as of-coded-reads
+use Rattle.crossing.proofs.answers.of_coded.Reads as of-coded-reads
 use Rattle.imm.proofs.code.Reads as code-reads
 
 code-requires : tie.Need-code-requires

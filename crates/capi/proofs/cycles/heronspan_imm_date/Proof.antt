@@ -1,13 +1,13 @@
 -- `capi::cycles::heronspan_imm_date` meets its contract.
 -- Assumes nothing.
-use Rattle.capi.specs.Answers.{itself}
-use Rattle.capi.proofs.Calls.{told}
+use Rattle.crossing.specs.Answers.{itself}
+use Rattle.crossing.specs.Calls.{told}
 use borrow.Author.Needs.{needs}
 use Rattle.capi.proofs.cycles.heronspan_imm_date.Statement.{statement}
 use Rattle.capi.proofs.cycles.heronspan_imm_date.Tie as tie
 use Rattle.capi.proofs.cycles.heronspan_imm_date.Reads as reads
 use Rattle.capi.proofs.cycles.heronspan_imm_date.Lts as lts
-use Rattle.capi.proofs.answers.of_dated.Reads as of-dated-reads
+use Rattle.crossing.proofs.answers.of_dated.Reads as of-dated-reads
 use Rattle.imm.proofs.date.Reads as date-reads
 
 date-requires : tie.Need-date-requires

@@ -2,16 +2,16 @@
 -- Assumes nothing.
 use mathlib.Core.Path.{ap}
 use Rattle.refusal.specs.Answer.{given}
-use Rattle.capi.specs.Answers.{yes}
-use Rattle.capi.proofs.Calls.{told-given, told-refused, named, unnamed, flag-named, flag-unnamed}
+use Rattle.crossing.specs.Answers.{yes}
+use Rattle.crossing.specs.Calls.{told-given, told-refused, named, unnamed, flag-named, flag-unnamed}
 use borrow.Author.Needs.{needs}
 use Rattle.capi.proofs.cycles.heronspan_is_imm_code.Statement.{statement}
 use Rattle.capi.proofs.cycles.heronspan_is_imm_code.Tie as tie
 use Rattle.capi.proofs.cycles.heronspan_is_imm_code.Reads as reads
 use Rattle.capi.proofs.cycles.heronspan_is_imm_code.Lts as lts
-use Rattle.capi.proofs.answers.minus.Reads as minus-reads
-use Rattle.capi.proofs.answers.truth.Reads as truth-reads
-use Rattle.capi.proofs.numbers.flag_of.Reads as flag-of-reads
+use Rattle.crossing.proofs.answers.minus.Reads as minus-reads
+use Rattle.crossing.proofs.answers.truth.Reads as truth-reads
+use Rattle.crossing.proofs.flag_of.Reads as flag-of-reads
 use Rattle.imm.proofs.is_imm_code.Reads as is-imm-code-reads
 
 flag-of-requires : tie.Need-flag-of-requires

@@ -1,15 +1,15 @@
 -- `capi::cycles::heronspan_is_imm_date` meets its contract.
 -- Assumes nothing.
-use Rattle.capi.specs.Answers.{yes}
-use Rattle.capi.proofs.Calls.{told, told-refused, named, unnamed, flag-named, flag-unnamed}
+use Rattle.crossing.specs.Answers.{yes}
+use Rattle.crossing.specs.Calls.{told, told-refused, named, unnamed, flag-named, flag-unnamed}
 use borrow.Author.Needs.{needs}
 use Rattle.capi.proofs.cycles.heronspan_is_imm_date.Statement.{statement}
 use Rattle.capi.proofs.cycles.heronspan_is_imm_date.Tie as tie
 use Rattle.capi.proofs.cycles.heronspan_is_imm_date.Reads as reads
 use Rattle.capi.proofs.cycles.heronspan_is_imm_date.Lts as lts
-use Rattle.capi.proofs.answers.minus.Reads as minus-reads
-use Rattle.capi.proofs.answers.of_tested.Reads as of-tested-reads
-use Rattle.capi.proofs.numbers.flag_of.Reads as flag-of-reads
+use Rattle.crossing.proofs.answers.minus.Reads as minus-reads
+use Rattle.crossing.proofs.answers.of_tested.Reads as of-tested-reads
+use Rattle.crossing.proofs.flag_of.Reads as flag-of-reads
 use Rattle.imm.proofs.is_imm_date.Reads as is-imm-date-reads
 
 flag-of-requires : tie.Need-flag-of-requires

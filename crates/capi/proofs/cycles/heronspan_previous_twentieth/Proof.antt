@@ -1,15 +1,15 @@
 -- `capi::cycles::heronspan_previous_twentieth` meets its contract.
 -- Assumes nothing.
-use Rattle.capi.specs.Answers.{itself}
-use Rattle.capi.proofs.Calls.{told, told-refused, named, unnamed, rule-named, rule-unnamed}
+use Rattle.crossing.specs.Answers.{itself}
+use Rattle.crossing.specs.Calls.{told, told-refused, named, unnamed, rule-named, rule-unnamed}
 use borrow.Author.Needs.{needs}
 use Rattle.capi.proofs.cycles.heronspan_previous_twentieth.Statement.{statement}
 use Rattle.capi.proofs.cycles.heronspan_previous_twentieth.Tie as tie
 use Rattle.capi.proofs.cycles.heronspan_previous_twentieth.Reads as reads
 use Rattle.capi.proofs.cycles.heronspan_previous_twentieth.Lts as lts
-use Rattle.capi.proofs.answers.minus.Reads as minus-reads
-use Rattle.capi.proofs.answers.of_dated.Reads as of-dated-reads
-use Rattle.capi.proofs.numbers.rule_of.Reads as rule-of-reads
+use Rattle.crossing.proofs.answers.minus.Reads as minus-reads
+use Rattle.crossing.proofs.answers.of_dated.Reads as of-dated-reads
+use Rattle.crossing.proofs.rule_of.Reads as rule-of-reads
 use Rattle.steps.proofs.previous_twentieth.Reads as previous-twentieth-reads
 
 rule-of-requires : tie.Need-rule-of-requires

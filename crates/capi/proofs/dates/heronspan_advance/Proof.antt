@@ -1,16 +1,16 @@
 -- `capi::dates::heronspan_advance` meets its contract.
 -- Assumes nothing.
-use Rattle.capi.proofs.Calls.{told, told-refused, named, unnamed, unit-named, unit-unnamed, same-count}
+use Rattle.crossing.specs.Calls.{told, told-refused, named, unnamed, unit-named, unit-unnamed, same-count}
 use Rattle.date.specs.Date.{advanceOf}
-use Rattle.capi.specs.Answers.{itself}
+use Rattle.crossing.specs.Answers.{itself}
 use borrow.Author.Needs.{needs}
 use Rattle.capi.proofs.dates.heronspan_advance.Statement.{statement}
 use Rattle.capi.proofs.dates.heronspan_advance.Tie as tie
 use Rattle.capi.proofs.dates.heronspan_advance.Reads as reads
 use Rattle.capi.proofs.dates.heronspan_advance.Lts as lts
-use Rattle.capi.proofs.answers.minus.Reads as minus-reads
-use Rattle.capi.proofs.answers.of_dated.Reads as of-dated-reads
-use Rattle.capi.proofs.numbers.unit_of.Reads as unit-of-reads
+use Rattle.crossing.proofs.answers.minus.Reads as minus-reads
+use Rattle.crossing.proofs.answers.of_dated.Reads as of-dated-reads
+use Rattle.crossing.proofs.unit_of.Reads as unit-of-reads
 use Rattle.date.proofs.Date.advance.Reads as advance-reads
 
 unit-of-requires : tie.Need-unit-of-requires

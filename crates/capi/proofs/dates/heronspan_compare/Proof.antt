@@ -1,13 +1,13 @@
 -- `capi::dates::heronspan_compare` meets its contract.
 -- Assumes nothing.
-use Rattle.capi.proofs.Calls.{told}
-use Rattle.capi.specs.Answers.{place}
+use Rattle.crossing.specs.Calls.{told}
+use Rattle.crossing.specs.Answers.{place}
 use borrow.Author.Needs.{needs}
 use Rattle.capi.proofs.dates.heronspan_compare.Statement.{statement}
 use Rattle.capi.proofs.dates.heronspan_compare.Tie as tie
 use Rattle.capi.proofs.dates.heronspan_compare.Reads as reads
 use Rattle.capi.proofs.dates.heronspan_compare.Lts as lts
-use Rattle.capi.proofs.answers.of_compared.Reads as of-compared-reads
+use Rattle.crossing.proofs.answers.of_compared.Reads as of-compared-reads
 use Rattle.date.proofs.Date.compare.Reads as compare-reads
 
 compare-requires : tie.Need-compare-requires

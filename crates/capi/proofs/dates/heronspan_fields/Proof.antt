@@ -1,13 +1,13 @@
 -- `capi::dates::heronspan_fields` meets its contract.
 -- Assumes nothing.
-use Rattle.capi.proofs.Calls.{told}
-use Rattle.capi.specs.Answers.{digits}
+use Rattle.crossing.specs.Calls.{told}
+use Rattle.crossing.specs.Answers.{digits}
 use borrow.Author.Needs.{needs}
 use Rattle.capi.proofs.dates.heronspan_fields.Statement.{statement}
 use Rattle.capi.proofs.dates.heronspan_fields.Tie as tie
 use Rattle.capi.proofs.dates.heronspan_fields.Reads as reads
 use Rattle.capi.proofs.dates.heronspan_fields.Lts as lts
-use Rattle.capi.proofs.answers.of_split.Reads as of-split-reads
+use Rattle.crossing.proofs.answers.of_split.Reads as of-split-reads
 use Rattle.date.proofs.Date.fields.Reads as fields-reads
 
 fields-requires : tie.Need-fields-requires

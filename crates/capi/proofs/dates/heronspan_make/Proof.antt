@@ -1,13 +1,13 @@
 -- `capi::dates::heronspan_make` meets its contract.
 -- Assumes nothing.
-use Rattle.capi.proofs.Calls.{told}
-use Rattle.capi.specs.Answers.{itself}
+use Rattle.crossing.specs.Calls.{told}
+use Rattle.crossing.specs.Answers.{itself}
 use borrow.Author.Needs.{needs}
 use Rattle.capi.proofs.dates.heronspan_make.Statement.{statement}
 use Rattle.capi.proofs.dates.heronspan_make.Tie as tie
 use Rattle.capi.proofs.dates.heronspan_make.Reads as reads
 use Rattle.capi.proofs.dates.heronspan_make.Lts as lts
-use Rattle.capi.proofs.answers.of_dated.Reads as of-dated-reads
+use Rattle.crossing.proofs.answers.of_dated.Reads as of-dated-reads
 use Rattle.date.proofs.Date.make.Reads as make-reads
 
 make-requires : tie.Need-make-requires

@@ -1,0 +1,55 @@
+-- Worked answers, and what a caller may conclude from one.
+-- Assumes nothing.
+use Prim.Native.Nat.{ℕ, zero, suc}
+use mathlib.Core.Path.{_≡_, refl, sym, _∙_}
+use lib.IntN.{ℤ, pos, negsuc, pos-ne-negsuc}
+use Rattle.refusal.specs.Answer.{Answer, given, refused, need}
+use Rattle.period.specs.declared.Unit.{Unit}
+use Rattle.period.specs.declared.Unit.the-variants.{Days, Weeks, Months, Years}
+use Rattle.date.specs.Date.{inBook, compareOf}
+use Rattle.steps.specs.declared.Rule.{Rule}
+use Rattle.steps.specs.declared.Rule.the-variants.{Zero, Backward, Forward, Twentieth, TwentiethIMM, ThirdWednesday, ThirdWednesdayInclusive, OldCDS, CDS, CDS2015}
+use Rattle.steps.specs.Rules.{ruleNumber}
+use Rattle.crossing.specs.Answers.{oneNumber, place}
+use Rattle.crossing.specs.Numbers.{atPlace, unitOf, ruleOf, flagOf, unitNumber}
+
+-- an answer below zero is a refusal, and its number is the refusal's
+pub below-zero : {A : Type 0} (f : A → ℕ) (a : Answer A) (n : ℕ) → oneNumber f a ≡ negsuc n → a ≡ refused (suc n)
+unfolding oneNumber
+below-zero f (given a) n e = absurd (pos-ne-negsuc (f a) n e)
+below-zero f (refused zero) n e = absurd (pos-ne-negsuc 0 n e)
+below-zero f (refused (suc k)) n e = cc
+
+-- a missing date has no place in the order
+pub missing-date : (d : ℕ) → oneNumber place (compareOf 0 d) ≡ negsuc 1
+unfolding oneNumber compareOf need inBook
+missing-date d = refl
+
+-- numbers and names agree, and there is no rule 10 and no flag 2
+pub rule-numbered : (r : Rule) → ruleOf (ruleNumber r) ≡ given r
+unfolding ruleOf atPlace ruleNumber
+rule-numbered Zero = refl
+rule-numbered Backward = refl
+rule-numbered Forward = refl
+rule-numbered Twentieth = refl
+rule-numbered TwentiethIMM = refl
+rule-numbered ThirdWednesday = refl
+rule-numbered ThirdWednesdayInclusive = refl
+rule-numbered OldCDS = refl
+rule-numbered CDS = refl
+rule-numbered CDS2015 = refl
+
+pub unit-numbered : (u : Unit) → unitOf (unitNumber u) ≡ given u
+unfolding unitOf atPlace unitNumber
+unit-numbered Days = refl
+unit-numbered Weeks = refl
+unit-numbered Months = refl
+unit-numbered Years = refl
+
+pub no-rule-ten : ruleOf 10 ≡ refused 17
+unfolding ruleOf atPlace
+no-rule-ten = refl
+
+pub no-flag-two : flagOf 2 ≡ refused 17
+unfolding flagOf atPlace
+no-flag-two = refl
