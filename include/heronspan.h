@@ -209,13 +209,21 @@ int64_t heronspan_build(uint32_t effective, uint32_t termination, int32_t tenor,
 int64_t heronspan_build_bytes(const uint8_t *bytes, size_t bytes_len, uint32_t *dates, size_t dates_len, uint8_t *flags,
                               size_t flags_len, uint32_t *answer, size_t answer_len);
 
+/* ---- names */
+
+/* The most bytes that the name of a refusal has. */
+#define HERONSPAN_NAME 16
+
+/* Writes the name of the refusal that an answer below zero gives, BOOK for one, to the start of `text` in ASCII, with no zero
+ * behind it, and answers how many bytes it has; later places keep what they held. Every other answer has the empty name, and
+ * 0 is answered. A list that the name does not fit is HERONSPAN_ROOM, and nothing is written. */
+int64_t heronspan_refusal_text(int64_t answer, uint8_t *text, size_t text_len);
+
 #ifdef __cplusplus
 }
 #endif
 
-/* ---- names */
-
-/* The name of the refusal that an answer below zero gives, BOOK for one; "" for every other answer. */
+/* The same name as a string; it is not proved. */
 static inline const char *heronspan_refusal_name(int64_t answer) {
     static const char *const names[] = {
         "",

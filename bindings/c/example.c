@@ -1,6 +1,8 @@
-/* Builds a quarterly schedule and prints it, then shows two refusals: by name, and of a missing date. */
+/* Builds a quarterly schedule and prints it, then shows two refusals: by name, and of a missing date. Ends with 1 where the
+ * header and the library name an answer differently. */
 #include <inttypes.h>
 #include <stdio.h>
+#include <string.h>
 
 #include "heronspan.h"
 
@@ -11,6 +13,18 @@ static void print_day(uint32_t day) {
 
 static void print_refusal(const char *what, int64_t answer) {
     printf("%s: refused %" PRId64 " %s\n", what, -answer, heronspan_refusal_name(answer));
+}
+
+/* Whether the header and the library have the same name for each answer from -256 to 256. */
+static int same_names(void) {
+    for (int64_t answer = -256; answer <= 256; answer++) {
+        uint8_t text[HERONSPAN_NAME];
+        const char *name = heronspan_refusal_name(answer);
+        int64_t length = heronspan_refusal_text(answer, text, sizeof text);
+        if (length != (int64_t)strlen(name) || memcmp(text, name, strlen(name)) != 0)
+            return 0;
+    }
+    return 1;
 }
 
 int main(void) {
@@ -41,5 +55,5 @@ int main(void) {
 
     /* 0 is no date: it is neither before nor after the real ones. */
     print_refusal("a missing date", heronspan_compare(0, effective));
-    return 0;
+    return same_names() ? 0 : 1;
 }

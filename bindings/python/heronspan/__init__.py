@@ -20,7 +20,8 @@ from typing import Iterable, Optional, Sequence
 __all__ = [
     "Calendar", "Convention", "Order", "Refusal", "Refused", "Rule", "Schedule", "Unit", "WEEKENDS", "advance", "build",
     "build_bytes", "compare", "difference", "imm_code", "imm_date", "is_imm_code", "is_imm_date", "make", "month_end", "next_imm_code",
-    "next_imm_date", "next_twentieth", "next_weekday", "nth_weekday", "previous_twentieth", "times", "weekday",
+    "next_imm_date", "next_twentieth", "next_weekday", "nth_weekday", "previous_twentieth", "refusal_name", "times",
+    "weekday",
 ]
 
 
@@ -127,6 +128,7 @@ _PARAMETERS = {
     "previous_twentieth": [_u32, _u8],
     "build": [_u32, _u32, _i32, _u8, _u8, _u8, _u8, _u8, _u32, _u32, _u8, *_days, *_days, *_flags, *_days],
     "build_bytes": [*_bytes, *_days, *_flags, *_days],
+    "refusal_text": [_i64, *_flags],
 }
 
 
@@ -189,6 +191,15 @@ def _coded(code: str) -> tuple[bytes, int]:
 
 def _list(numbers: Sequence[int]) -> tuple[ctypes.Array, int]:
     return (_u32 * len(numbers))(*numbers), len(numbers)
+
+
+# ---- names
+
+
+def refusal_name(number: int) -> str:
+    """The library's name of the refusal with a number; empty where there is none. The longest has 16 letters."""
+    text = (_u8 * 16)()
+    return bytes(text[: _ask("refusal_text", -_byte(number), text, 16)]).decode("ascii")
 
 
 # ---- dates

@@ -1,5 +1,6 @@
 """Sums by hand of document 01, and what is refused."""
 
+import ctypes
 import unittest
 from datetime import date
 
@@ -17,6 +18,25 @@ class Refusals(unittest.TestCase):
             call(*arguments, **named)
         self.assertEqual(caught.exception.name, name)
         self.assertEqual(caught.exception.number, h.Refusal[name])
+
+
+class Names(unittest.TestCase):
+    def test_the_library_has_the_same_names(self) -> None:
+        own = {int(refusal): refusal.name for refusal in h.Refusal}
+        for number in range(256):
+            self.assertEqual(h.refusal_name(number), own.get(number, ""), number)
+
+    def test_a_name_that_does_not_fit_is_refused(self) -> None:
+        text = (ctypes.c_uint8 * 3)(7, 8, 9)
+        self.assertEqual(h._library.heronspan_refusal_text(-2, text, 3), -14)
+        self.assertEqual(bytes(text), b"\x07\x08\x09")
+
+    def test_later_places_stay_and_a_value_has_no_name(self) -> None:
+        text = (ctypes.c_uint8 * 6)(1, 2, 3, 4, 5, 6)
+        self.assertEqual(h._library.heronspan_refusal_text(2, text, 6), 0)
+        self.assertEqual(bytes(text), b"\x01\x02\x03\x04\x05\x06")
+        self.assertEqual(h._library.heronspan_refusal_text(-2, text, 6), 4)
+        self.assertEqual(bytes(text), b"BOOK\x05\x06")
 
 
 class Dates(Refusals):

@@ -66,4 +66,5 @@ extern "C" {
         answer: *mut u32,
         answer_len: usize,
     ) -> i64;
+    pub fn heronspan_refusal_text(answer: i64, text: *mut u8, text_len: usize) -> i64;
 }

@@ -69,6 +69,13 @@ impl fmt::Display for Refusal {
 
 impl std::error::Error for Refusal {}
 
+/// The library's name of the refusal with a number; empty where there is none.
+pub fn refusal_name(number: u8) -> String {
+    let mut text = [0; 16];
+    let length = unsafe { ffi::heronspan_refusal_text(-i64::from(number), text.as_mut_ptr(), text.len()) };
+    String::from_utf8_lossy(&text[..length as usize]).into_owned()
+}
+
 pub type Answer<T> = Result<T, Refusal>;
 
 /// What an answer in one number says.
@@ -469,5 +476,25 @@ impl Schedule {
             tenor: record[4],
             unit: UNITS[record[5] as usize],
         })
+    }
+}
+
+#[cfg(test)]
+mod tests {
+    use super::*;
+
+    #[test]
+    fn the_library_has_the_same_names() {
+        for number in 0..=255 {
+            let own = REFUSALS.iter().find(|row| row.0.number() == number).map_or("", |row| row.1);
+            assert_eq!(refusal_name(number), own, "{number}");
+        }
+    }
+
+    #[test]
+    fn a_name_that_does_not_fit_is_refused() {
+        let mut text = [7, 8, 9];
+        assert_eq!(unsafe { ffi::heronspan_refusal_text(-2, text.as_mut_ptr(), text.len()) }, -14);
+        assert_eq!(text, [7, 8, 9]);
     }
 }

@@ -11,3 +11,5 @@ pub mod calendars;
 pub mod cycles;
 // Differences and lengths.
 pub mod counts;
+// Names of refusals.
+pub mod refusals;

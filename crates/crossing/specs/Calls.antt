@@ -3,6 +3,7 @@
 use Prim.Native.Nat.{ℕ, zero, suc, _<_}
 use mathlib.Core.Path.{_≡_, refl, ap, sym, _∙_}
 use mathlib.Core.Bool.{Bool}
+use mathlib.Core.List.{List}
 use native.Mathlib.Omega.{arith}
 use lib.IntN.{ℤ, pos, negℤ, _-ℤ_, +ℤ-idl}
 use lib.Signed.{mag}
@@ -24,6 +25,7 @@ use Rattle.crossing.specs.declared.NamedConvention.the-variants as conve
 use Rattle.crossing.specs.declared.NamedFlag.{NamedFlag}
 use Rattle.crossing.specs.declared.NamedFlag.the-variants as flag-is
 use Rattle.crossing.specs.Answers.{oneNumber}
+use Rattle.crossing.specs.Names.{nameOf, Spelled}
 use Rattle.crossing.specs.Numbers.{namedUnit, namedRule, namedConvention, namedFlag}
 
 pub handed : (r : ℤ) {x : ℤ} → mag r < 9223372036854775808 → r ≡ x → toZ w64 (ofZ w64 r) ≡ x
@@ -104,3 +106,10 @@ module _ {m : NamedFlag} {x : Answer Bool} (p : namedFlag m ≡ x) where
   pub flag-unnamed : (n : ℕ) → m ≡ flag-is.Refused n → x ≡ refused n
   unfolding namedFlag
   flag-unnamed n e = sym p ∙ ap namedFlag e
+
+-- ---- what was written of an answer's name
+pub same-name : (z : ℤ) → SFits w64 z → nameOf (toZ w64 (ofZ w64 z)) ≡ nameOf z
+same-name z s = ap nameOf (toZ-ofZ {w = w64} {z = z} s)
+
+pub spelled-as : {r : ℤ} {text text′ : List ℕ} (a b : List ℕ) → mag r < 9223372036854775808 → a ≡ b → Spelled a r text text′ → Spelled b (toZ w64 (ofZ w64 r)) text text′
+spelled-as {r} a b s e p = rw (← e) (record { answer = handed r s (p .answer); text-after = p .text-after })

@@ -2,6 +2,7 @@
 -- Assumes nothing.
 use Prim.Native.Nat.{ℕ, zero, suc}
 use mathlib.Core.Path.{_≡_, refl, sym, _∙_}
+use mathlib.Core.List.{[], _∷_}
 use lib.IntN.{ℤ, pos, negsuc, pos-ne-negsuc}
 use Rattle.refusal.specs.Answer.{Answer, given, refused, need}
 use Rattle.period.specs.declared.Unit.{Unit}
@@ -11,6 +12,7 @@ use Rattle.steps.specs.declared.Rule.{Rule}
 use Rattle.steps.specs.declared.Rule.the-variants.{Zero, Backward, Forward, Twentieth, TwentiethIMM, ThirdWednesday, ThirdWednesdayInclusive, OldCDS, CDS, CDS2015}
 use Rattle.steps.specs.Rules.{ruleNumber}
 use Rattle.crossing.specs.Answers.{oneNumber, place}
+use Rattle.crossing.specs.Names.{letters, names, nameAt, nameOf}
 use Rattle.crossing.specs.Numbers.{atPlace, unitOf, ruleOf, flagOf, unitNumber}
 
 -- an answer below zero is a refusal, and its number is the refusal's
@@ -53,3 +55,16 @@ no-rule-ten = refl
 pub no-flag-two : flagOf 2 ≡ refused 17
 unfolding flagOf atPlace
 no-flag-two = refl
+
+-- refusal 2 is BOOK; there is no refusal 18, and a value has no name
+pub book-named : nameOf (negsuc 1) ≡ 66 ∷ 79 ∷ 79 ∷ 75 ∷ []
+unfolding nameOf nameAt names letters
+book-named = refl
+
+pub no-eighteenth : nameOf (negsuc 17) ≡ []
+unfolding nameOf nameAt names
+no-eighteenth = refl
+
+pub value-unnamed : (n : ℕ) → nameOf (pos n) ≡ []
+unfolding nameOf
+value-unnamed n = refl

@@ -11,6 +11,8 @@ use steps::Rule;
 pub mod answers;
 // Counts with a sign, in a lent list.
 pub mod counts;
+// Names of refusals.
+pub mod names;
 // Requests.
 pub mod requests;
 
