@@ -77,7 +77,8 @@ fn days_before(leaps: bool, m: usize) -> u32
     BEFORE[row][m] as u32
 }
 
-// The month, from 0, of a day of the year, from 0: no month is longer than 32 days, so the quotient is at most one short.
+// The month, from 0, of a day of the year, from 0. Months have at most 31 days and few have less, so that 32 goes into the day as
+// often as there are months before it, or once less.
 fn month_in(leaps: bool, j: u32) -> u32
     requires { ⌜ j < pickN leaps 366 365 ⌝ }
     ensures { λ r. ⌜ r ≡ monthIn (rowOf leaps) j ⌝ }

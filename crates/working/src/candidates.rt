@@ -99,7 +99,8 @@ pub(crate) fn front_of(
     }
 }
 
-// What a candidate does that is not past the exit date.
+// What a candidate does that is not past the exit date. The known adjusted date is taken as it is, and not by `front_of`, whose
+// answer would go through memory for each candidate.
 fn compare(
     day: u32,
     newest: u32,
