@@ -1,7 +1,7 @@
 -- A law for each way through the code, over what the calls on the way gave.
 -- Assumes nothing.
 use Prim.Native.Nat.{ℕ, zero, suc, _+_, _-_, _*_, _<_}
-use mathlib.Core.Path.{_≡_, refl, sym, _∙_}
+use mathlib.Core.Path.{_≡_, refl, sym, ap, _∙_}
 use mathlib.Core.Bool.{Bool, true, false}
 use mathlib.Core.List.{List}
 use native.Mathlib.Omega.{arith}
@@ -10,7 +10,7 @@ use lib.IntN.{ℤ, pos, negsuc}
 use mir.Syntax.{w32}
 use mir.Val.{SFits, ofZ}
 use borrow.Author.Needs.{needs}
-use borrow.Author.Tests.{ne-eqb}
+use borrow.Author.Tests.{ne-eqb, eq-eqb}
 use Rattle.refusal.specs.Answer.{Answer, given}
 use Rattle.period.specs.Signed.{abs-small}
 use Rattle.date.specs.declared.Fields.{Fields}
@@ -19,8 +19,10 @@ use Rattle.date.specs.Moves.{valid-at, year-at}
 use Rattle.calendar.specs.Adjust.{atMonthEnd}
 use Rattle.steps.specs.declared.Rule.the-variants.{Zero}
 use Rattle.steps.specs.declared.Request.{Request}
-use Rattle.steps.specs.Rules.{isNone, ruleUnder, ruleInForce}
+use Rattle.steps.specs.declared.Rule.{Rule}
+use Rattle.steps.specs.Rules.{isNone, ruleUnder, ruleInForce, isBackward}
 use Rattle.steps.specs.Finish.{seedAsked, seedAtEnd}
+use Rattle.steps.specs.Settled.{settles}
 
 -- ---- lengths
 pub none-test : (z : ℤ) → SFits w32 z → eqb (ofZ w32 z) 0 ≡ isNone z
@@ -40,6 +42,28 @@ module _ (q : Request) (none : Bool) where
   rule-asked p e = let t : isNone (q .tenor .length) ≡ false = cc in rw t
 
 pub ruleset rules-in-force = (rule-forced, rule-asked, needs)
+
+-- ---- whether candidates are kept as adjusted
+module _ (q : Request) where
+  pub month-ends : q .monthend ≡ true → false ≡ settles q
+  unfolding settles
+  month-ends e = rw e
+
+  module _ (e : q .monthend ≡ false) where
+    pub has-first : (q .first .day ≡ 0 → ⊥) → false ≡ settles q
+    unfolding settles
+    has-first f = rw (e, ne-eqb (q .first .day) 0 f) refl
+
+    module _ (f : q .first .day ≡ 0) where
+      pub has-penultimate : (q .penultimate .day ≡ 0 → ⊥) → false ≡ settles q
+      unfolding settles
+      has-penultimate p = rw (e, eq-eqb (q .first .day) 0 f, ne-eqb (q .penultimate .day) 0 p) refl
+
+      pub by-rule : (rule : Rule) (b : Bool) → q .penultimate .day ≡ 0 → rule ≡ ruleInForce q → b ≡ isBackward rule → b ≡ settles q
+      unfolding settles ruleInForce
+      by-rule rule b p r h = let v : b ≡ isBackward (ruleInForce q) = h ∙ ap isBackward r in rw (e, eq-eqb (q .first .day) 0 f, eq-eqb (q .penultimate .day) 0 p) v
+
+pub ruleset settling = (month-ends, has-first, has-penultimate, by-rule, needs)
 
 -- ---- the seed
 pub year-fits : (f : Fields) (day : ℕ) → day < 4294967296 → f ≡ fieldsOf day → 12 * f .year + f .month < 4294967296

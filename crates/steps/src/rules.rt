@@ -1,6 +1,7 @@
 // The groups of rules that the steps speak of, and the rule and the tenor in force.
 ghost use mathlib.Core.Path.{_≡_};
 ghost use Rattle.steps.specs.Rules.{isZero, isBackward, onTwentieths, inImmMonths, isCredit, isOldCDS, ruleInForce, tenorInForce, tenorUnder};
+ghost use Rattle.steps.specs.Settled.{settles};
 use crate::Request;
 use crate::Rule;
 use crate::tenors;
@@ -149,4 +150,21 @@ pub fn tenor_in_force(q: Request) -> Period
 {
     let tenor = q.tenor;
     tenor_under(rule_in_force(q), tenor)
+}
+
+// Whether the loop keeps candidates as adjusted: Backward, without end of month and without anchors, where nothing later asks for
+// the candidate itself.
+pub fn settles(q: Request) -> bool
+    ensures { λ r. ⌜ r ≡ settles q ⌝ }
+{
+    if q.monthend {
+        return false;
+    }
+    if q.first.day != 0 {
+        return false;
+    }
+    if q.penultimate.day != 0 {
+        return false;
+    }
+    is_backward(rule_in_force(q))
 }
