@@ -8,3 +8,5 @@ pub mod Generate
 pub mod Finish
 pub mod Build
 pub mod Settled
+pub mod Parts
+pub mod SettledLaws
