@@ -3,4 +3,3 @@ pub mod Places
 pub mod Members
 pub mod Days
 pub mod Ways
-pub mod Stays

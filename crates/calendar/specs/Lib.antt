@@ -4,6 +4,7 @@ pub mod Mask
 pub mod Places
 pub mod Adjust
 pub mod Search
+pub mod Stays
 pub mod Calendar
 pub mod Told
 pub mod Sums

@@ -1,6 +1,6 @@
 -- `calendar::search::convention_on` meets its contract.
 -- Assumes nothing.
-use Rattle.calendar.proofs.Stays.{all-same}
+use Rattle.calendar.specs.Stays.{all-same}
 use native.Mathlib.Omega.{arith}
 use borrow.Author.Needs.{needs}
 use Rattle.calendar.proofs.search.convention_on.Statement.{statement}
