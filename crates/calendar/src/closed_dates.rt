@@ -3,23 +3,24 @@ ghost use mathlib.Core.Path.{_≡_};
 ghost use Rattle.calendar.specs.Open.{closedOk};
 ghost use Rattle.calendar.specs.Places.{LowerBound};
 
-// Whether the list keeps its rule: one pass, without a branch for each date.
+// Whether the list keeps its rule: one pass, without a branch for each date. As the dates ascend, the last alone is held against the
+// upper bound.
 pub(crate) fn keep_rule(closed: &[u32]) -> bool
     ensures { λ r. ⌜ r ≡ closedOk (now (closed .entry)) ⌝ }
 {
     if 4096 < closed.len() {
         return false;
     }
-    let mut low: u32 = 657071;
-    let mut keeps = true;
-    let mut i = 0;
+    if closed.len() == 0 {
+        return true;
+    }
+    let mut keeps = 657071 < closed[0];
+    let mut i = 1;
     while i < closed.len() {
-        let x = closed[i];
-        keeps = keeps & (low < x) & (x < 876217);
-        low = x;
+        keeps = keeps & (closed[i - 1] < closed[i]);
         i += 1;
     }
-    keeps
+    keeps & (closed[i - 1] < 876217)
 }
 
 // The first place whose date is at least x, or the length.
