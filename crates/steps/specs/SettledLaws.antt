@@ -12,6 +12,7 @@ use Rattle.refusal.specs.Answer.{Answer, given, refused, need, then, ROOM}
 use Rattle.date.specs.Civil.{pickN}
 use Rattle.calendar.specs.declared.Convention.{Convention}
 use Rattle.calendar.specs.Adjust.{adjusted}
+use Rattle.calendar.specs.Stays.{adjust-again}
 use Rattle.steps.specs.declared.Rule.{Rule}
 use Rattle.steps.specs.declared.Rule.the-variants.{Zero, Backward, Forward, Twentieth, TwentiethIMM, ThirdWednesday, ThirdWednesdayInclusive, OldCDS, CDS, CDS2015}
 use Rattle.steps.specs.declared.Request.{Request}
@@ -415,9 +416,9 @@ module _ (q : Request) (closed : List ℕ) (no : settles q ≡ false) where
       ∙ ap (then (kept q closed (min room 4096))) (λ i made. then (as-finish (made .seed) (made .dates) (made .flags) i) (λ done. given (record { dates = done .dates; flags = done .flags; tries = made .tries })))
 
 -- ---- the law
-pub kept-steps : (q : Request) (closed : List ℕ) → ((x y : ℕ) → adjusted (q .mask) closed (q .convention) x ≡ given y → adjusted (q .mask) closed (q .convention) y ≡ given y) → (room : ℕ) → stepsOf q closed room ≡ keptSteps q closed room
-kept-steps q closed again room = by (settles q) refl
+pub kept-steps : (q : Request) (closed : List ℕ) (room : ℕ) → stepsOf q closed room ≡ keptSteps q closed room
+kept-steps q closed room = by (settles q) refl
   where
     by : (b : Bool) → settles q ≡ b → stepsOf q closed room ≡ keptSteps q closed room
-    by true e = settled-steps q closed e again room
+    by true e = settled-steps q closed e (adjust-again (q .mask) closed (q .convention)) room
     by false e = unsettled-steps q closed e room
