@@ -3,3 +3,4 @@ pub mod Places
 pub mod Members
 pub mod Days
 pub mod Ways
+pub mod OneMonth

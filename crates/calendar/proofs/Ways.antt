@@ -11,7 +11,7 @@ use borrow.Author.Tests.{leb-true, eqb-true, eqb-false, eq-eqb, ne-eqb}
 use mathlib.Core.Logic.{⊎-elim}
 use native.Mathlib.Nat.{eq-or-lt-of-le}
 use Rattle.refusal.specs.Answer.{Answer, given, refused, need, then, BOOK, TENOR}
-use Rattle.refusal.specs.Laws.{holds, passed, failed, need-given, then-given, then-refused, never-both, one-given}
+use Rattle.refusal.specs.Laws.{holds, passed, failed, need-given, then-given, then-refused, then-stepped, never-both, one-given}
 use lib.IntN.{ℤ, natAbs}
 use Rattle.period.specs.Signed.{isNegative}
 use Rattle.period.specs.declared.Unit.{Unit}
@@ -21,10 +21,11 @@ use Rattle.date.specs.declared.Dated.the-variants.{Day, Refused}
 use Rattle.date.specs.Date.{dated, step, withinSpan}
 use Rattle.date.specs.Made.{given-day, refused-day}
 use Rattle.calendar.specs.declared.Convention.{Convention}
+use Rattle.calendar.specs.declared.Convention.the-variants.{Following}
 use Rattle.calendar.specs.Open.{weeklyClosed, isOpen, closedOk, calendarOk}
 use Rattle.calendar.specs.Kept.{both}
 use Rattle.calendar.specs.Places.{LowerBound}
-use Rattle.calendar.specs.Adjust.{inSpan, firstOpen, found, sameMonth, unlessLeft, modified, adjusted, towards, openSteps, advanced}
+use Rattle.calendar.specs.Adjust.{inSpan, firstOpen, found, sameMonth, unlessLeft, modified, byConvention, adjusted, towards, openSteps, advanced}
 use Rattle.calendar.specs.Calendar.{tenorOk}
 use Rattle.calendar.specs.Search.{span-need}
 use Rattle.calendar.specs.Told.{ok-closed}
@@ -60,6 +61,24 @@ within-refused-go false n k x h = let q : BOOK ≡ k = cc in ap refused (sym q)
 pub within-refused : {A : Type 0} (n k : ℕ) (x : Answer A) → withinSpan n ≡ refused k → refused k ≡ need BOOK (inSpan n) x
 within-refused n k x h = within-refused-go (inSpan n) n k x (sym (span-need n) ∙ h)
 
+-- ---- days that were found are days of the span, and so from day 1 on
+pub span-one : (t : Bool) (day : ℕ) → t ≡ inSpan day → t ≡ true → 1 ≤ day
+span-one t day p e = omega (arith, span-from t day p e)
+
+within-one : (n m : ℕ) → withinSpan n ≡ given m → 1 ≤ m
+within-one n m h =
+    rw (within-given n m h) (span-one _ n refl (need-given BOOK (inSpan n) (given n) m (sym (span-need n) ∙ h) .0))
+
+found-one : (mask : ℕ) (closed : List ℕ) (back : Bool) (day new : ℕ) → found mask closed back day ≡ given new → 1 ≤ new
+unfolding found
+found-one mask closed back day new h =
+    let s = then-stepped (firstOpen mask closed back 31 day) withinSpan new h in
+    within-one (s .value) new (s .to)
+
+pub following-one : (mask : ℕ) (closed : List ℕ) (day new : ℕ) → adjusted mask closed Following day ≡ given new → 1 ≤ new
+unfolding adjusted byConvention
+following-one mask closed day new h = found-one mask closed false day new (need-given BOOK (inSpan day) _ new h .1)
+
 -- ---- a single day
 module _ (mask : ℕ) (closed : List ℕ) (day : ℕ) {w : Bool} (p : w ≡ weeklyClosed mask day) where
   pub single-week : w ≡ true → false ≡ isOpen mask closed day
@@ -93,18 +112,20 @@ module _ (mask : ℕ) (closed : List ℕ) (back : Bool) (day : ℕ) (first : Dat
   look-refused n t p e h q = passed _ _ _ _ _ p e (then-refused _ n _ (refused-day first n _ h q))
 
   module _ (h : dated first ≡ need BOOK (inSpan day) (found mask closed back day)) where
-    pub modified-kept : (x : Date) (s : Bool) → first ≡ Day x → s ≡ sameMonth day (x .day) → s ≡ true → given (x .day) ≡ need BOOK (inSpan day) (modified mask closed back day)
+    pub modified-kept : (x : Date) (s : Bool) → first ≡ Day x → (1 ≤ day → 1 ≤ x .day → s ≡ sameMonth day (x .day)) → s ≡ true → given (x .day) ≡ need BOOK (inSpan day) (modified mask closed back day)
     unfolding modified unlessLeft
     modified-kept x s q p e =
         let g = need-given BOOK _ _ (x .day) (given-day first x _ h q) in
-        holds BOOK _ _ _ (g .0) (then-given _ (x .day) _ _ (g .1) (rw (sym p ∙ e)))
+        let m = p (span-one _ day refl (g .0)) (found-one mask closed back day (x .day) (g .1)) in
+        holds BOOK _ _ _ (g .0) (then-given _ (x .day) _ _ (g .1) (rw (sym m ∙ e)))
 
-    pub modified-left : (x : Date) (s : Bool) (r : Answer ℕ) → first ≡ Day x → s ≡ sameMonth day (x .day) → s ≡ false → r ≡ need BOOK (inSpan day) (found mask closed (not back) day) → r ≡ need BOOK (inSpan day) (modified mask closed back day)
+    pub modified-left : (x : Date) (s : Bool) (r : Answer ℕ) → first ≡ Day x → (1 ≤ day → 1 ≤ x .day → s ≡ sameMonth day (x .day)) → s ≡ false → r ≡ need BOOK (inSpan day) (found mask closed (not back) day) → r ≡ need BOOK (inSpan day) (modified mask closed back day)
     unfolding modified unlessLeft need
     modified-left x s r q p e z =
         let g = need-given BOOK (inSpan day) _ (x .day) (given-day first x _ h q) in
+        let m = p (span-one _ day refl (g .0)) (found-one mask closed back day (x .day) (g .1)) in
         let other : r ≡ found mask closed (not back) day = rw (g .0) at z in
-        holds BOOK _ _ _ (g .0) (then-given _ (x .day) _ _ (g .1) (rw (sym p ∙ e) other))
+        holds BOOK _ _ _ (g .0) (then-given _ (x .day) _ _ (g .1) (rw (sym m ∙ e) other))
 
     pub modified-refused : (n : ℕ) → first ≡ Refused n → refused n ≡ need BOOK (inSpan day) (modified mask closed back day)
     unfolding modified

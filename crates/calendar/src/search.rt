@@ -4,7 +4,7 @@ ghost use mathlib.Core.Path.{_≡_};
 ghost use mathlib.Core.Bool.{true, false};
 ghost use Prim.Native.Nat.{_≤_, _<_};
 ghost use Rattle.refusal.specs.Answer.{then};
-ghost use Rattle.date.specs.Date.{dated, monthIndex, step};
+ghost use Rattle.date.specs.Date.{dated, step};
 ghost use Rattle.calendar.specs.declared.Convention.the-variants.{Following, ModifiedFollowing, Preceding, ModifiedPreceding};
 ghost use Rattle.calendar.specs.Open.{weeklyClosed, isOpen, closedOk};
 ghost use Rattle.calendar.specs.Adjust.{inSpan, firstOpen, sameMonth, towards, adjusted, lastOpen, atMonthEnd, openSteps, endAsked, landed, addWeeks, addMonths, advanced};
@@ -35,20 +35,26 @@ fn weekly_closed(day: u32, mask: u8) -> bool
     (mask >> weekday) % 2 == 1
 }
 
-fn month_index(day: u32) -> u32
-    ensures { λ r. ⌜ r ≡ monthIndex day ⌝ }
+// Whether the later day's month has begun by the earlier day: a day is as far into its month as its day of the month says, so that
+// one split tells. Nothing is said of day 0, which lies in no month.
+fn has_begun(later: u32, earlier: u32) -> bool
+    requires { ⌜ earlier < later ⌝ }
+    ensures { λ r. ⌜ (1 ≤ earlier → r ≡ sameMonth earlier later) ⌝ }
 {
-    let f = civil::fields_of(day);
-    12 * f.year + f.month - 1
+    let f = civil::fields_of(later);
+    later - earlier < f.day
 }
 
 fn same_month(a: u32, b: u32) -> bool
-    ensures { λ r. ⌜ r ≡ sameMonth a b ⌝ }
+    ensures { λ r. ⌜ (1 ≤ a → 1 ≤ b → r ≡ sameMonth a b) ⌝ }
 {
-    if a == b {
-        return true;
+    if a < b {
+        return has_begun(b, a);
     }
-    month_index(a) == month_index(b)
+    if b < a {
+        return has_begun(a, b);
+    }
+    true
 }
 
 pub(crate) fn is_open(day: u32, mask: u8, closed: &[u32]) -> bool

@@ -8,6 +8,7 @@ use Rattle.date.specs.Date.{step}
 use Rattle.date.specs.Made.{given-day, refused-day}
 use Rattle.calendar.specs.Adjust.{towards, atMonthEnd}
 use Rattle.calendar.specs.Calendar.{decided}
+use Rattle.calendar.proofs.Ways.{span-one, following-one}
 use borrow.Author.Needs.{needs}
 use Rattle.calendar.proofs.search.at_month_end.Statement.{statement}
 use Rattle.calendar.proofs.search.at_month_end.Tie as tie
@@ -31,9 +32,10 @@ returns c =
     let day = c .before .before .before .next .given .0 .0 in
     let span = c .before .before .before .before .before .before .before .in-span in
     let in-it = c .before .before .before .before .before .before .if1 in
-    λ ok. passed _ _ _ _ _ (span .ensures) (in-it .taken)
-    (then-given _ (day .day) _ _ (given-day (next .result) day _ (next .ensures ok) (cc))
-    (ap (λ (b : Bool). given (not b)) (sym (c .if2 .taken) ∙ c .before .same-month .ensures)))
+    λ ok. let found = given-day (next .result) day _ (next .ensures ok) (cc) in
+    let same = c .before .same-month .ensures (span-one _ _ (span .ensures) (in-it .taken)) (following-one _ _ _ (day .day) found) in
+    passed _ _ _ _ _ (span .ensures) (in-it .taken)
+    (then-given _ (day .day) _ _ found (ap (λ (b : Bool). given (not b)) (sym (c .if2 .taken) ∙ same)))
 
 returns-2 : tie.Need-returns-2
 unfolding decided atMonthEnd towards step
@@ -42,9 +44,10 @@ returns-2 c =
     let day = c .before .before .before .next .given .0 .0 in
     let span = c .before .before .before .before .before .before .before .in-span in
     let in-it = c .before .before .before .before .before .before .if1 in
-    λ ok. passed _ _ _ _ _ (span .ensures) (in-it .taken)
-    (then-given _ (day .day) _ _ (given-day (next .result) day _ (next .ensures ok) (cc))
-    (ap (λ (b : Bool). given (not b)) (sym (c .if2 .left) ∙ c .before .same-month .ensures)))
+    λ ok. let found = given-day (next .result) day _ (next .ensures ok) (cc) in
+    let same = c .before .same-month .ensures (span-one _ _ (span .ensures) (in-it .taken)) (following-one _ _ _ (day .day) found) in
+    passed _ _ _ _ _ (span .ensures) (in-it .taken)
+    (then-given _ (day .day) _ _ found (ap (λ (b : Bool). given (not b)) (sym (c .if2 .left) ∙ same)))
 
 enum-known-next-2 : tie.Need-enum-known-next-2
 enum-known-next-2 c = search needs
