@@ -22,7 +22,8 @@ use Rattle.steps.specs.declared.Request.{Request}
 use Rattle.steps.specs.declared.Built.{Built}
 use Rattle.steps.specs.Rules.{ruleInForce, tenorInForce}
 use Rattle.steps.specs.Generate.{generate}
-use Rattle.steps.specs.Finish.{Merged, mergeEnd, mergeFront, mergeFrontIf, meetAtFront, wednesdays, adjustments, finish}
+use Rattle.steps.specs.Finish.{Merged, mergeEnd, mergeFront, mergeFrontIf, meetAtFront, wednesdays, finish}
+use Rattle.steps.specs.Settled.{fewAdjustments, keptFinish}
 use Rattle.steps.specs.Build.{Schedule, stepsOf, answered, over, datesAfter, flagsAfter, Written}
 use Rattle.finish.specs.declared.merges.Start.{Start}
 use Rattle.finish.specs.declared.merges.Start.the-variants as start-is
@@ -152,22 +153,22 @@ lent-moved work′ l e =
     record { between = omega arith; most = omega arith; fits = omega arith; even = l .even }
 
 module _ (q : Request) (closed : List ℕ) (ok : closedOk closed ≡ true) (seed tries : ℕ) (work marks dates flags : List ℕ) (r : Done) (work′ : List ℕ) where
-  module _ (p : closedOk closed ≡ true → done r work′ ≡ adjustments q closed seed work) where
-    pub adjust-refused : (n : ℕ) (b : Built) → r ≡ Refused n → b ≡ refusedBuilt n → Written q (then (then (adjustments q closed seed work) (merges marks)) (scheduled tries)) b dates flags dates flags
+  module _ (p : closedOk closed ≡ true → done r work′ ≡ fewAdjustments q closed seed work) where
+    pub adjust-refused : (n : ℕ) (b : Built) → r ≡ Refused n → b ≡ refusedBuilt n → Written q (then (then (fewAdjustments q closed seed work) (merges marks)) (scheduled tries)) b dates flags dates flags
     unfolding done then
     adjust-refused n b e h = written-as q (refused n) _ b dates flags dates flags (rw (← p ok, e)) (written-refused q n b dates flags h)
 
-    pub adjust-on : (b : Built) (dates′ flags′ : List ℕ) → r ≡ Whole → Written q (then (mergeFront (mergeEnd work′ marks)) (scheduled tries)) b dates flags dates′ flags′ → Written q (then (then (adjustments q closed seed work) (merges marks)) (scheduled tries)) b dates flags dates′ flags′
+    pub adjust-on : (b : Built) (dates′ flags′ : List ℕ) → r ≡ Whole → Written q (then (mergeFront (mergeEnd work′ marks)) (scheduled tries)) b dates flags dates′ flags′ → Written q (then (then (fewAdjustments q closed seed work) (merges marks)) (scheduled tries)) b dates flags dates′ flags′
     unfolding done then merges
     adjust-on b dates′ flags′ e h = written-as q _ _ b dates flags dates′ flags′ (rw (← p ok, e)) h
 
   module _ (rule : Rule) (f : rule ≡ ruleInForce q) (p : closedOk closed ≡ true → done r work′ ≡ wednesdays rule (q .mask) closed work) where
-    pub complete-refused : (n : ℕ) (b : Built) → r ≡ Refused n → b ≡ refusedBuilt n → Written q (then (finish q closed seed work marks) (scheduled tries)) b dates flags dates flags
-    unfolding done then finish
+    pub complete-refused : (n : ℕ) (b : Built) → r ≡ Refused n → b ≡ refusedBuilt n → Written q (then (keptFinish q closed seed work marks) (scheduled tries)) b dates flags dates flags
+    unfolding done then keptFinish
     complete-refused n b e h = written-as q (refused n) _ b dates flags dates flags (rw (← f, ← p ok, e)) (written-refused q n b dates flags h)
 
-    pub complete-on : (b : Built) (dates′ flags′ : List ℕ) → r ≡ Whole → (closedOk closed ≡ true → Written q (then (then (adjustments q closed seed work′) (merges marks)) (scheduled tries)) b dates flags dates′ flags′) → Written q (then (finish q closed seed work marks) (scheduled tries)) b dates flags dates′ flags′
-    unfolding done then finish merges
+    pub complete-on : (b : Built) (dates′ flags′ : List ℕ) → r ≡ Whole → (closedOk closed ≡ true → Written q (then (then (fewAdjustments q closed seed work′) (merges marks)) (scheduled tries)) b dates flags dates′ flags′) → Written q (then (keptFinish q closed seed work marks) (scheduled tries)) b dates flags dates′ flags′
+    unfolding done then keptFinish merges
     complete-on b dates′ flags′ e h = written-as q _ _ b dates flags dates′ flags′ (rw (← f, ← p ok, e)) (h ok)
 
 pub ruleset lasts = (lent-moved, adjust-refused, adjust-on, complete-refused, complete-on, needs)

@@ -1,7 +1,7 @@
 -- Dates moved in place: the invariant of the loop, and a law for each way through it.
 -- Assumes nothing.
 use mathlib.Core.Path.{_≡_, refl, ap, sym, _∙_}
-use mathlib.Core.Bool.{true, false}
+use mathlib.Core.Bool.{Bool, true, false}
 use mathlib.Core.List.{List, [], _∷_, _++_, append-nil}
 use Prim.Native.Nat.{ℕ, suc, _+_, _-_, _≤_, _<_}
 use native.Mathlib.Numerals.{add-one}
@@ -27,10 +27,11 @@ use Rattle.steps.specs.declared.Move.the-variants.{ThirdWednesdays}
 use Rattle.steps.specs.declared.Rule.{Rule}
 use Rattle.steps.specs.declared.Rule.the-variants.{ThirdWednesday, ThirdWednesdayInclusive}
 use Rattle.steps.specs.declared.Request.{Request}
-use Rattle.steps.specs.Finish.{moved, each, between, onFirst, onLast, onMiddle, firstMove, lastMove, middleMove, seedAtEnd, wednesdays, adjustments}
+use Rattle.steps.specs.Finish.{moved, each, between, onFirst, onLast, onMiddle, firstMove, lastMove, middleMove, seedAtEnd, wednesdays}
+use Rattle.steps.specs.Settled.{settles, middleUnless, lastAndMiddle, fewAdjustments}
 use Rattle.finish.specs.declared.moving.Done.{Done}
 use Rattle.finish.specs.declared.moving.Done.the-variants.{Whole, Refused}
-use Rattle.finish.specs.Moving.{done, middleAdjusted, lastAdjusted}
+use Rattle.finish.specs.Moving.{done}
 
 -- the first i stand as they are, the rest is still to be moved
 unfoldable pub rest : (ℕ → Answer ℕ) → ℕ → List ℕ → Answer (List ℕ)
@@ -158,39 +159,43 @@ unfolding moved middleMove
 move-alike mask closed a b e = λ i day. e i day
 
 module _ (q : Request) (closed : List ℕ) (seed : ℕ) (ds : List ℕ) where
-  module _ (end : Decided) (p : closedOk closed ≡ true → decided end ≡ seedAtEnd (q .monthend) (q .mask) closed seed) (ok : closedOk closed ≡ true) where
-    pub seed-refused : (n : ℕ) → end ≡ decided-is.Refused n → done (Refused n) ds ≡ middleAdjusted q closed seed ds
-    unfolding middleAdjusted decided then done
-    seed-refused n e = rw (← p ok, e)
+  pub settled-whole : (s : Bool) → s ≡ settles q → s ≡ true → done Whole ds ≡ middleUnless (settles q) q closed seed ds
+  unfolding middleUnless done
+  settled-whole s a t = rw (← a, t)
+
+  module _ (s : Bool) (a : s ≡ settles q) (l : s ≡ false) (end : Decided) (p : closedOk closed ≡ true → decided end ≡ seedAtEnd (q .monthend) (q .mask) closed seed) (ok : closedOk closed ≡ true) where
+    pub seed-refused : (n : ℕ) → end ≡ decided-is.Refused n → done (Refused n) ds ≡ middleUnless (settles q) q closed seed ds
+    unfolding middleUnless decided then done
+    seed-refused n e = rw (← a, l, ← p ok, e)
 
     module _ (what : Move) (r : Done) (ds′ : List ℕ) (m : closedOk closed ≡ true → done r ds′ ≡ onMiddle (moved (q .mask) closed what) ds) where
-      pub seed-at-end : end ≡ decided-is.Yes → what ≡ middleMove true (q .convention) → done r ds′ ≡ middleAdjusted q closed seed ds
-      unfolding middleAdjusted decided then
-      seed-at-end e w = rw (← p ok, e, ← w) (m ok)
+      pub seed-at-end : end ≡ decided-is.Yes → what ≡ middleMove true (q .convention) → done r ds′ ≡ middleUnless (settles q) q closed seed ds
+      unfolding middleUnless decided then
+      seed-at-end e w = rw (← a, l, ← p ok, e, ← w) (m ok)
 
-      pub seed-within : (way : Convention) → adjusted (q .mask) closed way ≡ adjusted (q .mask) closed (q .convention) → end ≡ decided-is.No → what ≡ middleMove false way → done r ds′ ≡ middleAdjusted q closed seed ds
-      unfolding middleAdjusted decided then
-      seed-within way a e w =
-          rw (← p ok, e)
-          (rw w at (m ok) ∙ ap (λ (f : ℕ → Answer ℕ). onMiddle f ds) (move-alike (q .mask) closed way (q .convention) a))
+      pub seed-within : (way : Convention) → adjusted (q .mask) closed way ≡ adjusted (q .mask) closed (q .convention) → end ≡ decided-is.No → what ≡ middleMove false way → done r ds′ ≡ middleUnless (settles q) q closed seed ds
+      unfolding middleUnless decided then
+      seed-within way alike e w =
+          rw (← a, l, ← p ok, e)
+          (rw w at (m ok) ∙ ap (λ (f : ℕ → Answer ℕ). onMiddle f ds) (move-alike (q .mask) closed way (q .convention) alike))
 
   module _ (ok : closedOk closed ≡ true) (what : Move) (r : Done) (ds₁ : List ℕ) where
     module _ (w : what ≡ lastMove q) (p : closedOk closed ≡ true → done r ds₁ ≡ onLast (moved (q .mask) closed what) ds) where
-      pub last-refused : (n : ℕ) → r ≡ Refused n → done (Refused n) ds₁ ≡ lastAdjusted q closed seed ds
-      unfolding lastAdjusted done
-      last-refused n e = done-refused (middleAdjusted q closed seed) _ r ds₁ (rw w at (p ok)) n e
+      pub last-refused : (n : ℕ) → r ≡ Refused n → done (Refused n) ds₁ ≡ lastAndMiddle q closed seed ds
+      unfolding lastAndMiddle done
+      last-refused n e = done-refused (middleUnless (settles q) q closed seed) _ r ds₁ (rw w at (p ok)) n e
 
-      pub last-on : (t : Done) (ds₂ : List ℕ) → r ≡ Whole → (closedOk closed ≡ true → done t ds₂ ≡ middleAdjusted q closed seed ds₁) → done t ds₂ ≡ lastAdjusted q closed seed ds
-      unfolding lastAdjusted
-      last-on t ds₂ e h = done-on (middleAdjusted q closed seed) _ r ds₁ (rw w at (p ok)) _ e (h ok)
+      pub last-on : (t : Done) (ds₂ : List ℕ) → r ≡ Whole → (closedOk closed ≡ true → done t ds₂ ≡ middleUnless (settles q) q closed seed ds₁) → done t ds₂ ≡ lastAndMiddle q closed seed ds
+      unfolding lastAndMiddle
+      last-on t ds₂ e h = done-on (middleUnless (settles q) q closed seed) _ r ds₁ (rw w at (p ok)) _ e (h ok)
 
     module _ (w : what ≡ firstMove q) (p : closedOk closed ≡ true → done r ds₁ ≡ onFirst (moved (q .mask) closed what) ds) where
-      pub first-refused : (n : ℕ) → r ≡ Refused n → done (Refused n) ds₁ ≡ adjustments q closed seed ds
-      unfolding adjustments lastAdjusted middleAdjusted done
-      first-refused n e = done-refused (lastAdjusted q closed seed) _ r ds₁ (rw w at (p ok)) n e
+      pub first-refused : (n : ℕ) → r ≡ Refused n → done (Refused n) ds₁ ≡ fewAdjustments q closed seed ds
+      unfolding fewAdjustments done
+      first-refused n e = done-refused (lastAndMiddle q closed seed) _ r ds₁ (rw w at (p ok)) n e
 
-      pub first-on : (t : Done) (ds₂ : List ℕ) → r ≡ Whole → (closedOk closed ≡ true → done t ds₂ ≡ lastAdjusted q closed seed ds₁) → done t ds₂ ≡ adjustments q closed seed ds
-      unfolding adjustments lastAdjusted middleAdjusted
-      first-on t ds₂ e h = done-on (lastAdjusted q closed seed) _ r ds₁ (rw w at (p ok)) _ e (h ok)
+      pub first-on : (t : Done) (ds₂ : List ℕ) → r ≡ Whole → (closedOk closed ≡ true → done t ds₂ ≡ lastAndMiddle q closed seed ds₁) → done t ds₂ ≡ fewAdjustments q closed seed ds
+      unfolding fewAdjustments
+      first-on t ds₂ e h = done-on (lastAndMiddle q closed seed) _ r ds₁ (rw w at (p ok)) _ e (h ok)
 
-pub ruleset adjusting = (seed-refused, seed-at-end, seed-within, last-refused, last-on, first-refused, first-on, needs)
+pub ruleset adjusting = (settled-whole, seed-refused, seed-at-end, seed-within, last-refused, last-on, first-refused, first-on, needs)

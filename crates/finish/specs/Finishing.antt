@@ -14,7 +14,8 @@ use Rattle.steps.specs.declared.Rule.the-variants.{Zero}
 use Rattle.steps.specs.declared.Request.{Request}
 use Rattle.steps.specs.declared.Built.{Built}
 use Rattle.steps.specs.Rules.{ruleInForce, tenorInForce}
-use Rattle.steps.specs.Finish.{Merged, mergeEnd, mergeFront, finish}
+use Rattle.steps.specs.Finish.{Merged, mergeEnd, mergeFront}
+use Rattle.steps.specs.Settled.{keptFinish}
 use Rattle.steps.specs.Build.{Schedule}
 
 -- the generated dates, the flags between them, and room for both
@@ -54,4 +55,4 @@ unlessRefused (suc n) o = refused (suc n)
 unfoldable pub completed : Request → List ℕ → ℕ → ℕ → List ℕ → List ℕ → ℕ → ℕ → Answer Schedule
 completed q closed seed tries work marks dates flags =
     unlessRefused (lentRefusal (length work) (length marks) dates flags)
-    (then (finish q closed seed work marks) (scheduled tries))
+    (then (keptFinish q closed seed work marks) (scheduled tries))

@@ -11,7 +11,7 @@ use borrow.Author.Tests.{le-leb, lt-leb, eq-eqb, ne-eqb, eqb-true, leb-true}
 use Rattle.refusal.specs.Answer.{Answer, refused, then, UNEVEN, ROOM}
 use Rattle.date.specs.Civil.{pickN}
 use Rattle.steps.specs.declared.Request.{Request}
-use Rattle.steps.specs.Finish.{finish}
+use Rattle.steps.specs.Settled.{keptFinish}
 use Rattle.steps.specs.declared.Built.{Built}
 use Rattle.steps.specs.Build.{Schedule, Written, answered, datesAfter, flagsAfter}
 use Rattle.finish.specs.Finishing.{Lent, lentRefusal, unlessRefused, completed, scheduled, refusedBuilt}
@@ -69,11 +69,11 @@ module _ (q : Request) (closed : List ℕ) (seed tries : ℕ) (work marks : List
   unfolding completed unlessRefused
   completed-refused h = rw (sym p) (go number h)
     where
-      go : (n : ℕ) → (n ≡ 0 → ⊥) → refused n ≡ unlessRefused n (then (finish q closed seed work marks) (scheduled tries))
+      go : (n : ℕ) → (n ≡ 0 → ⊥) → refused n ≡ unlessRefused n (then (keptFinish q closed seed work marks) (scheduled tries))
       go zero h = absurd (h refl)
       go (suc n) h = refl
 
-  pub completed-on : number ≡ 0 → then (finish q closed seed work marks) (scheduled tries) ≡ completed q closed seed tries work marks dates flags
+  pub completed-on : number ≡ 0 → then (keptFinish q closed seed work marks) (scheduled tries) ≡ completed q closed seed tries work marks dates flags
   unfolding completed unlessRefused
   completed-on e = rw (sym p ∙ e) refl
 

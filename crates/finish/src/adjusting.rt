@@ -4,8 +4,9 @@ ghost use mathlib.Core.Bool.{true};
 ghost use Prim.Native.Nat.{_≤_};
 ghost use lib.ListN.{length};
 ghost use Rattle.calendar.specs.Open.{closedOk};
-ghost use Rattle.steps.specs.Finish.{moved, onFirst, onLast, onMiddle, wednesdays, adjustments};
-ghost use Rattle.finish.specs.Moving.{done, middleAdjusted, lastAdjusted};
+ghost use Rattle.steps.specs.Finish.{moved, onFirst, onLast, onMiddle, wednesdays};
+ghost use Rattle.steps.specs.Settled.{settles, middleUnless, lastAndMiddle, fewAdjustments};
+ghost use Rattle.finish.specs.Moving.{done};
 use crate::moving;
 use crate::moving::Done;
 use calendar::Decided;
@@ -14,6 +15,7 @@ use steps::Move;
 use steps::Request;
 use steps::Rule;
 use steps::moves;
+use steps::rules;
 use steps::seeds;
 
 // All but the first and the last.
@@ -64,9 +66,13 @@ pub(crate) fn third_wednesdays(rule: Rule, mask: u8, closed: &[u32], dates: &mut
     }
 }
 
+// Middle dates that were kept as adjusted stay.
 fn adjust_middle(q: Request, closed: &[u32], seed: u32, dates: &mut [u32]) -> Done
-    ensures { λ r. ⌜ (closedOk (now (closed .entry)) ≡ true → done r (now (dates .exit)) ≡ middleAdjusted q (now (closed .entry)) seed (now (dates .entry))) ⌝ }
+    ensures { λ r. ⌜ (closedOk (now (closed .entry)) ≡ true → done r (now (dates .exit)) ≡ middleUnless (settles q) q (now (closed .entry)) seed (now (dates .entry))) ⌝ }
 {
+    if rules::settles(q) {
+        return Done::Whole;
+    }
     let convention = q.convention;
     let end = seeds::seed_at_end(q.monthend, seed, q.mask, closed);
     match end {
@@ -81,7 +87,7 @@ fn adjust_middle(q: Request, closed: &[u32], seed: u32, dates: &mut [u32]) -> Do
 
 fn adjust_last(q: Request, closed: &[u32], seed: u32, dates: &mut [u32]) -> Done
     requires { ⌜ 1 ≤ length (now dates) ⌝ }
-    ensures { λ r. ⌜ (closedOk (now (closed .entry)) ≡ true → done r (now (dates .exit)) ≡ lastAdjusted q (now (closed .entry)) seed (now (dates .entry))) ⌝ }
+    ensures { λ r. ⌜ (closedOk (now (closed .entry)) ≡ true → done r (now (dates .exit)) ≡ lastAndMiddle q (now (closed .entry)) seed (now (dates .entry))) ⌝ }
 {
     let moved = move_last(dates, moves::last_move(q), q.mask, closed);
     match moved {
@@ -92,7 +98,7 @@ fn adjust_last(q: Request, closed: &[u32], seed: u32, dates: &mut [u32]) -> Done
 
 pub(crate) fn adjust_dates(q: Request, closed: &[u32], seed: u32, dates: &mut [u32]) -> Done
     requires { ⌜ 1 ≤ length (now dates) ⌝ }
-    ensures { λ r. ⌜ (closedOk (now (closed .entry)) ≡ true → done r (now (dates .exit)) ≡ adjustments q (now (closed .entry)) seed (now (dates .entry))) ⌝ }
+    ensures { λ r. ⌜ (closedOk (now (closed .entry)) ≡ true → done r (now (dates .exit)) ≡ fewAdjustments q (now (closed .entry)) seed (now (dates .entry))) ⌝ }
 {
     let moved = move_first(dates, moves::first_move(q), q.mask, closed);
     match moved {

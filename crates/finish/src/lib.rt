@@ -4,7 +4,8 @@ ghost use mathlib.Core.Bool.{true};
 ghost use lib.ListN.{length};
 ghost use Rattle.refusal.specs.Answer.{then};
 ghost use Rattle.calendar.specs.Open.{closedOk};
-ghost use Rattle.steps.specs.Finish.{adjustments, mergeEnd, mergeFront, finish};
+ghost use Rattle.steps.specs.Finish.{mergeEnd, mergeFront};
+ghost use Rattle.steps.specs.Settled.{fewAdjustments, keptFinish};
 ghost use Rattle.steps.specs.Build.{Written};
 ghost use Rattle.finish.specs.Finishing.{refusedBuilt, acceptedBuilt, pair, scheduled, merges, Lent, lentRefusal, completed};
 use crate::merges::Start;
@@ -116,7 +117,7 @@ fn adjust_and_merge(
     flags: &mut [u8],
 ) -> Built
     requires { ⌜ Lent (now work) (now marks) (now dates) (now flags) ⌝ }
-    ensures { λ r. ⌜ (closedOk (now (closed .entry)) ≡ true → Written q (then (then (adjustments q (now (closed .entry)) seed (now (work .entry))) (merges (now (marks .entry)))) (scheduled tries)) r (now (dates .entry)) (now (flags .entry)) (now (dates .exit)) (now (flags .exit))) ⌝ }
+    ensures { λ r. ⌜ (closedOk (now (closed .entry)) ≡ true → Written q (then (then (fewAdjustments q (now (closed .entry)) seed (now (work .entry))) (merges (now (marks .entry)))) (scheduled tries)) r (now (dates .entry)) (now (flags .entry)) (now (dates .exit)) (now (flags .exit))) ⌝ }
 {
     let moved = adjusting::adjust_dates(q, closed, seed, work);
     match moved {
@@ -136,7 +137,7 @@ fn complete_lent(
     flags: &mut [u8],
 ) -> Built
     requires { ⌜ Lent (now work) (now marks) (now dates) (now flags) ⌝ }
-    ensures { λ r. ⌜ (closedOk (now (closed .entry)) ≡ true → Written q (then (finish q (now (closed .entry)) seed (now (work .entry)) (now (marks .entry))) (scheduled tries)) r (now (dates .entry)) (now (flags .entry)) (now (dates .exit)) (now (flags .exit))) ⌝ }
+    ensures { λ r. ⌜ (closedOk (now (closed .entry)) ≡ true → Written q (then (keptFinish q (now (closed .entry)) seed (now (work .entry)) (now (marks .entry))) (scheduled tries)) r (now (dates .entry)) (now (flags .entry)) (now (dates .exit)) (now (flags .exit))) ⌝ }
 {
     let moved = adjusting::third_wednesdays(rules::rule_in_force(q), q.mask, closed, work);
     match moved {
