@@ -15,9 +15,11 @@ use Rattle.date.specs.Date.{dated}
 use Rattle.date.specs.Made.{given-day, refused-day}
 use Rattle.calendar.specs.declared.Convention.{Convention}
 use Rattle.calendar.specs.Adjust.{adjusted}
+use Rattle.calendar.specs.Stays.{adjust-again}
 use Rattle.steps.specs.declared.Pace.{Pace}
 use Rattle.steps.specs.declared.Seed.{Seed}
-use Rattle.steps.specs.Candidates.{candidate, isPast, unlessPast, unlessSame, turnOf}
+use Rattle.steps.specs.Candidates.{candidate, isPast, unlessSame}
+use Rattle.steps.specs.Settled.{unlessPastKept, turnKept}
 use Rattle.working.specs.declared.candidates.Turn.{Turn}
 use Rattle.working.specs.declared.candidates.Turn.the-variants.{Past, Skip, Keep, Stop}
 use Rattle.working.specs.Turning.{Front, told, Learnt, Compared}
@@ -41,45 +43,57 @@ pub front-from : (mask : ℕ) (closed : List ℕ) (convention : Convention) (day
 front-from mask closed convention day a e = record { known = λ h. e }
 
 -- ---- a candidate that is not past
-module _ (mask : ℕ) (closed : List ℕ) (convention : Convention) (newest day : ℕ) where
-  pub compare-stop : (found : Dated) → dated found ≡ adjusted mask closed convention newest → (n : ℕ) → found ≡ Refused n → Compared mask closed convention newest (unlessPast false mask closed convention newest day) (Stop n)
-  unfolding unlessPast told Learnt
+module _ (settled : Bool) (mask : ℕ) (closed : List ℕ) (convention : Convention) (newest day : ℕ) where
+  pub compare-stop : (found : Dated) → dated found ≡ adjusted mask closed convention newest → (n : ℕ) → found ≡ Refused n → Compared mask closed convention newest (unlessPastKept settled false mask closed convention newest day) (Stop n)
+  unfolding unlessPastKept told Learnt
   compare-stop found p n e = record { says = then-refused _ n _ (refused-day found n _ p e); learnt = tt }
 
   module _ (held : ℕ) (known : adjusted mask closed convention newest ≡ given held) (moved : Dated) (s : dated moved ≡ adjusted mask closed convention day) where
-    pub compare-closed : (n : ℕ) → moved ≡ Refused n → Compared mask closed convention newest (unlessPast false mask closed convention newest day) (Stop n)
-    unfolding unlessPast told Learnt
+    pub compare-closed : (n : ℕ) → moved ≡ Refused n → Compared mask closed convention newest (unlessPastKept settled false mask closed convention newest day) (Stop n)
+    unfolding unlessPastKept told Learnt
     compare-closed n e =
         record { says = then-given _ held _ _ known (then-refused _ n _ (refused-day moved n _ s e)); learnt = tt }
 
     module _ (b : Date) (t : moved ≡ Day b) where
-      pub compare-skip : held ≡ b .day → Compared mask closed convention newest (unlessPast false mask closed convention newest day) (Skip held)
-      unfolding unlessPast told Learnt unlessSame
+      pub compare-skip : held ≡ b .day → Compared mask closed convention newest (unlessPastKept settled false mask closed convention newest day) (Skip held)
+      unfolding unlessPastKept told Learnt unlessSame
       compare-skip e =
           record {
             says = then-given _ held _ _ known (then-given _ (b .day) _ _ (given-day moved b _ s t) (rw (eq-eqb held (b .day) e) refl));
             learnt = front-from mask closed convention newest held known;
           }
 
-      pub compare-keep : (held ≡ b .day → ⊥) → Compared mask closed convention newest (unlessPast false mask closed convention newest day) (Keep day (b .day))
-      unfolding unlessPast told Learnt unlessSame
-      compare-keep e =
-          record {
-            says = then-given _ held _ _ known (then-given _ (b .day) _ _ (given-day moved b _ s t) (rw (ne-eqb held (b .day) e) refl));
-            learnt = front-from mask closed convention day (b .day) (given-day moved b _ s t);
-          }
+      module _ (e : held ≡ b .day → ⊥) where
+        pub compare-keep : settled ≡ false → Compared mask closed convention newest (unlessPastKept settled false mask closed convention newest day) (Keep day (b .day))
+        unfolding unlessPastKept told Learnt unlessSame
+        compare-keep f =
+            record {
+              says = then-given _ held _ _ known (then-given _ (b .day) _ _ (given-day moved b _ s t) (rw (ne-eqb held (b .day) e, f) refl));
+              learnt = front-from mask closed convention day (b .day) (given-day moved b _ s t);
+            }
+
+        -- the date kept is adjusted already
+        pub compare-settle : settled ≡ true → Compared mask closed convention newest (unlessPastKept settled false mask closed convention newest day) (Keep (b .day) (b .day))
+        unfolding unlessPastKept told Learnt unlessSame
+        compare-settle f =
+            record {
+              says = then-given _ held _ _ known (then-given _ (b .day) _ _ (given-day moved b _ s t) (rw (ne-eqb held (b .day) e, f) refl));
+              learnt =
+                  front-from mask closed convention (b .day) (b .day)
+                  (adjust-again mask closed convention day (b .day) (given-day moved b _ s t));
+            }
 
 -- ---- the k-th candidate
-module _ (mask : ℕ) (closed : List ℕ) (convention : Convention) (back : Bool) (pace : Pace) (seed : Seed) (exit newest k : ℕ) (next : Dated) (p : dated next ≡ candidate back pace seed k) where
-  pub turn-stop : (n : ℕ) → next ≡ Refused n → Compared mask closed convention newest (turnOf mask closed convention back pace seed exit newest k) (Stop n)
-  unfolding turnOf told Learnt
+module _ (settled : Bool) (mask : ℕ) (closed : List ℕ) (convention : Convention) (back : Bool) (pace : Pace) (seed : Seed) (exit newest k : ℕ) (next : Dated) (p : dated next ≡ candidate back pace seed k) where
+  pub turn-stop : (n : ℕ) → next ≡ Refused n → Compared mask closed convention newest (turnKept settled mask closed convention back pace seed exit newest k) (Stop n)
+  unfolding turnKept told Learnt
   turn-stop n e = record { says = then-refused _ n _ (refused-day next n _ p e); learnt = tt }
 
   module _ (d : Date) (e : next ≡ Day d) (b : Bool) (q : b ≡ isPast back exit (d .day)) where
-    pub turn-past : b ≡ true → Compared mask closed convention newest (turnOf mask closed convention back pace seed exit newest k) Past
-    unfolding turnOf told Learnt unlessPast
+    pub turn-past : b ≡ true → Compared mask closed convention newest (turnKept settled mask closed convention back pace seed exit newest k) Past
+    unfolding turnKept told Learnt unlessPastKept
     turn-past t = record { says = then-given _ (d .day) _ _ (given-day next d _ p e) (rw (sym q ∙ t) refl); learnt = tt }
 
-    pub turn-on : (r : Turn) → b ≡ false → Compared mask closed convention newest (unlessPast false mask closed convention newest (d .day)) r → Compared mask closed convention newest (turnOf mask closed convention back pace seed exit newest k) r
-    unfolding turnOf
+    pub turn-on : (r : Turn) → b ≡ false → Compared mask closed convention newest (unlessPastKept settled false mask closed convention newest (d .day)) r → Compared mask closed convention newest (turnKept settled mask closed convention back pace seed exit newest k) r
+    unfolding turnKept
     turn-on r t c = record { says = then-given _ (d .day) _ _ (given-day next d _ p e) (rw (sym q ∙ t) (c .says)); learnt = c .learnt }

@@ -9,13 +9,15 @@ use native.Mathlib.Omega.{arith}
 use lib.ListN.{length}
 use lib.Dec.{eqb}
 use Rattle.refusal.specs.Answer.{Answer, given, refused, then, BOOK}
+use Rattle.date.specs.Civil.{pickN}
 use Rattle.calendar.specs.declared.Convention.{Convention}
 use Rattle.calendar.specs.Open.{closedOk}
 use Rattle.calendar.specs.Adjust.{adjusted}
 use Rattle.steps.specs.declared.Pace.{Pace}
 use Rattle.steps.specs.declared.Seed.{Seed}
 use Rattle.steps.specs.Candidates as steps
-use Rattle.steps.specs.Candidates.{candidate, isPast, unlessSame, unlessPast, turnOf}
+use Rattle.steps.specs.Candidates.{candidate, isPast, unlessSame}
+use Rattle.steps.specs.Settled.{unlessPastKept, turnKept}
 use Rattle.steps.specs.Generate.{Lists, Walk, newest, put, onTurn, walk}
 use Rattle.working.specs.declared.Filled.{Filled}
 use Rattle.working.specs.declared.Filled.the-variants as filled-is
@@ -28,19 +30,19 @@ use Rattle.working.specs.Turning.{Front, told, Learnt, Compared, walked,
 use Rattle.working.specs.Held.{newest-alone, put-is-newest}
 
 -- what is left to do from the k-th candidate on comes to the outcome o
-pub record Going (mask : ℕ) (closed : List ℕ) (convention : Convention) (back : Bool) (pace : Pace) (seed : Seed) (exit room : ℕ) (o : Answer Walk) (work marks : List ℕ) (n k front : ℕ) : Type 0 where
+pub record Going (settled : Bool) (mask : ℕ) (closed : List ℕ) (convention : Convention) (back : Bool) (pace : Pace) (seed : Seed) (exit room : ℕ) (o : Answer Walk) (work marks : List ℕ) (n k front : ℕ) : Type 0 where
   pub begun : Begun closed room n work marks
   pub front-known : Front mask closed convention front (newest (held back n work marks))
-  pub same : walk (turnOf mask closed convention back pace seed exit) room (876217 - k) k (held back n work marks) ≡ o
+  pub same : walk (turnKept settled mask closed convention back pace seed exit) room (876217 - k) k (held back n work marks) ≡ o
 
 front-unknown : (mask : ℕ) (closed : List ℕ) (convention : Convention) (day : ℕ) → Front mask closed convention 0 day
 front-unknown mask closed convention day = record { known = λ h. absurd (h refl) }
 
-pub going-start : (mask : ℕ) (closed : List ℕ) (convention : Convention) (back : Bool) (pace : Pace) (seed : Seed) (exit room n : ℕ) (work marks : List ℕ) → Begun closed room n work marks → Going mask closed convention back pace seed exit room (walk (turnOf mask closed convention back pace seed exit) room 876216 1 (held back n work marks)) work marks n 1 0
-going-start mask closed convention back pace seed exit room n work marks b =
+pub going-start : (settled : Bool) (mask : ℕ) (closed : List ℕ) (convention : Convention) (back : Bool) (pace : Pace) (seed : Seed) (exit room n : ℕ) (work marks : List ℕ) → Begun closed room n work marks → Going settled mask closed convention back pace seed exit room (walk (turnKept settled mask closed convention back pace seed exit) room 876216 1 (held back n work marks)) work marks n 1 0
+going-start settled mask closed convention back pace seed exit room n work marks b =
     record { begun = b; front-known = front-unknown mask closed convention _; same = refl }
 
-module _ {mask : ℕ} {closed : List ℕ} {convention : Convention} {back : Bool} {pace : Pace} {seed : Seed} {exit room : ℕ} {o : Answer Walk} {work marks : List ℕ} {n k front : ℕ} (g : Going mask closed convention back pace seed exit room o work marks n k front) where
+module _ {settled : Bool} {mask : ℕ} {closed : List ℕ} {convention : Convention} {back : Bool} {pace : Pace} {seed : Seed} {exit room : ℕ} {o : Answer Walk} {work marks : List ℕ} {n k front : ℕ} (g : Going settled mask closed convention back pace seed exit room o work marks n k front) where
   -- the candidates have been looked at
   pub walk-out : 876216 < k → Walking mask closed convention back room o (Refused 2) work marks
   unfolding walk walked Stands
@@ -58,11 +60,11 @@ module _ {mask : ℕ} {closed : List ℕ} {convention : Convention} {back : Bool
     front-here : Front mask closed convention front day
     front-here = rw here (g .front-known)
 
-    module _ (r : Turn) (turned : closedOk closed ≡ true → Front mask closed convention front day → Compared mask closed convention day (turnOf mask closed convention back pace seed exit day k) r) where
-      t : Compared mask closed convention day (turnOf mask closed convention back pace seed exit day k) r
+    module _ (r : Turn) (turned : closedOk closed ≡ true → Front mask closed convention front day → Compared mask closed convention day (turnKept settled mask closed convention back pace seed exit day k) r) where
+      t : Compared mask closed convention day (turnKept settled mask closed convention back pace seed exit day k) r
       t = turned (g .begun .calendar) front-here
 
-      opened : then (told r) (λ t. onTurn room t k (held back n work marks) (walk (turnOf mask closed convention back pace seed exit) room (876217 - suc k) (suc k))) ≡ o
+      opened : then (told r) (λ t. onTurn room t k (held back n work marks) (walk (turnKept settled mask closed convention back pace seed exit) room (876217 - suc k) (suc k))) ≡ o
       unfolding walk
       opened =
           let a : 876217 - k ≡ suc (876217 - suc k) = omega arith in
@@ -77,7 +79,7 @@ module _ {mask : ℕ} {closed : List ℕ} {convention : Convention} {back : Bool
       unfolding told then walked Stands onTurn
       walk-past e = record { says = rw e at opened; stands = (g .begun .part, g .begun .some, g .front-known) }
 
-      pub walk-skip : (a : ℕ) → r ≡ Skip a → Going mask closed convention back pace seed exit room o work marks n (k + 1) a
+      pub walk-skip : (a : ℕ) → r ≡ Skip a → Going settled mask closed convention back pace seed exit room o work marks n (k + 1) a
       unfolding told then onTurn Learnt
       walk-skip a e =
           let l : Learnt mask closed convention day r = t .learnt in
@@ -91,7 +93,7 @@ module _ {mask : ℕ} {closed : List ℕ} {convention : Convention} {back : Bool
         p : Filling back room (put room d 1 (held back n work marks)) f work′ marks′
         p = filled-so (g .begun .part)
 
-        kept : then (filled back f work′ marks′) (walk (turnOf mask closed convention back pace seed exit) room (876217 - suc k) (suc k)) ≡ o
+        kept : then (filled back f work′ marks′) (walk (turnKept settled mask closed convention back pace seed exit) room (876217 - suc k) (suc k)) ≡ o
         unfolding told then onTurn
         kept = rw (p .says) (rw e at opened)
 
@@ -106,7 +108,7 @@ module _ {mask : ℕ} {closed : List ℕ} {convention : Convention} {back : Bool
         pub walk-newest : (m : ℕ) → f ≡ filled-is.Ready m → d ≡ newest (held back m work′ work′)
         walk-newest m q = sym (newest-alone back m work′ marks′ ∙ put-newest m q)
 
-        pub walk-keep : (m : ℕ) → f ≡ filled-is.Ready m → Going mask closed convention back pace seed exit room o work′ marks′ m (k + 1) b
+        pub walk-keep : (m : ℕ) → f ≡ filled-is.Ready m → Going settled mask closed convention back pace seed exit room o work′ marks′ m (k + 1) b
         unfolding filled Placed then Learnt
         walk-keep m q =
             let l : Learnt mask closed convention day r = t .learnt in
@@ -120,16 +122,16 @@ module _ {mask : ℕ} {closed : List ℕ} {convention : Convention} {back : Bool
 
 -- ---- two conventions that adjust every day alike walk alike
 module _ (mask : ℕ) (closed : List ℕ) (a b : Convention) (e : adjusted mask closed a ≡ adjusted mask closed b) where
-  past-alike : (t : Bool) (last day : ℕ) → unlessPast t mask closed a last day ≡ unlessPast t mask closed b last day
-  unfolding unlessPast
-  past-alike true last day = refl
-  past-alike false last day =
-      ap (λ (f : ℕ → Answer ℕ). then (f last) (λ x. then (f day) (λ y. given (unlessSame (eqb x y) day)))) e
+  past-alike : (settled t : Bool) (last day : ℕ) → unlessPastKept settled t mask closed a last day ≡ unlessPastKept settled t mask closed b last day
+  unfolding unlessPastKept
+  past-alike settled true last day = refl
+  past-alike settled false last day =
+      ap (λ (f : ℕ → Answer ℕ). then (f last) (λ x. then (f day) (λ y. given (unlessSame (eqb x y) (pickN settled y day))))) e
 
-  turn-alike : (back : Bool) (pace : Pace) (seed : Seed) (exit : ℕ) → turnOf mask closed a back pace seed exit ≡ turnOf mask closed b back pace seed exit
-  unfolding turnOf
-  turn-alike back pace seed exit =
-      λ i last k. then (candidate back pace seed k) (λ day. past-alike (isPast back exit day) last day i)
+  turn-alike : (settled back : Bool) (pace : Pace) (seed : Seed) (exit : ℕ) → turnKept settled mask closed a back pace seed exit ≡ turnKept settled mask closed b back pace seed exit
+  unfolding turnKept
+  turn-alike settled back pace seed exit =
+      λ i last k. then (candidate back pace seed k) (λ day. past-alike settled (isPast back exit day) last day i)
 
   front-alike : (front day : ℕ) → Front mask closed a front day → Front mask closed b front day
   front-alike front day f = record { known = λ h. ap (λ (g : ℕ → Answer ℕ). g day) (sym e) ∙ f .known h }
@@ -139,9 +141,9 @@ module _ (mask : ℕ) (closed : List ℕ) (a b : Convention) (e : adjusted mask 
   stands-alike back room (Ready n tries front) work marks s = (s .0, s .1, front-alike front _ (s .2))
   stands-alike back room (Refused k) work marks s = tt
 
-  pub walk-alike : (back : Bool) (pace : Pace) (seed : Seed) (exit room fuel k : ℕ) (l : Lists) (r : Walked) (work marks : List ℕ) → Walking mask closed a back room (walk (turnOf mask closed a back pace seed exit) room fuel k l) r work marks → Walking mask closed b back room (walk (turnOf mask closed b back pace seed exit) room fuel k l) r work marks
-  walk-alike back pace seed exit room fuel k l r work marks w =
+  pub walk-alike : (settled back : Bool) (pace : Pace) (seed : Seed) (exit room fuel k : ℕ) (l : Lists) (r : Walked) (work marks : List ℕ) → Walking mask closed a back room (walk (turnKept settled mask closed a back pace seed exit) room fuel k l) r work marks → Walking mask closed b back room (walk (turnKept settled mask closed b back pace seed exit) room fuel k l) r work marks
+  walk-alike settled back pace seed exit room fuel k l r work marks w =
       record {
-        says = w .says ∙ ap (λ (f : ℕ → ℕ → Answer steps.Turn). walk f room fuel k l) (turn-alike back pace seed exit);
+        says = w .says ∙ ap (λ (f : ℕ → ℕ → Answer steps.Turn). walk f room fuel k l) (turn-alike settled back pace seed exit);
         stands = stands-alike back room r work marks (w .stands);
       }

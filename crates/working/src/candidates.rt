@@ -5,7 +5,8 @@ ghost use Prim.Native.Nat.{min};
 ghost use Rattle.date.specs.Date.{dated};
 ghost use Rattle.calendar.specs.Open.{closedOk};
 ghost use Rattle.calendar.specs.Adjust.{adjusted};
-ghost use Rattle.steps.specs.Candidates.{candidate, isPast, unlessPast, turnOf};
+ghost use Rattle.steps.specs.Candidates.{candidate, isPast};
+ghost use Rattle.steps.specs.Settled.{unlessPastKept, turnKept};
 ghost use Rattle.working.specs.Turning.{Front, Compared};
 ghost use Rattle.working.specs.Paces.{pace};
 use calendar::Convention;
@@ -99,9 +100,10 @@ pub(crate) fn front_of(
     }
 }
 
-// What a candidate does that is not past the exit date. The known adjusted date is taken as it is, and not by `front_of`, whose
-// answer would go through memory for each candidate.
+// What a candidate does that is not past the exit date; a settled build keeps it as adjusted. The known adjusted date is taken as
+// it is, and not by `front_of`, whose answer would go through memory for each candidate.
 fn compare(
+    settled: bool,
     day: u32,
     newest: u32,
     front: u32,
@@ -109,7 +111,7 @@ fn compare(
     mask: u8,
     closed: &[u32],
 ) -> Turn
-    ensures { λ r. ⌜ (closedOk (now (closed .entry)) ≡ true → Front mask (now (closed .entry)) convention front newest → Compared mask (now (closed .entry)) convention newest (unlessPast false mask (now (closed .entry)) convention newest day) r) ⌝ }
+    ensures { λ r. ⌜ (closedOk (now (closed .entry)) ≡ true → Front mask (now (closed .entry)) convention front newest → Compared mask (now (closed .entry)) convention newest (unlessPastKept settled false mask (now (closed .entry)) convention newest day) r) ⌝ }
 {
     let mut held = front;
     if front == 0 {
@@ -128,6 +130,12 @@ fn compare(
             if held == b.day {
                 return Turn::Skip(held);
             }
+            if settled {
+                return Turn::Keep {
+                    day: b.day,
+                    front: b.day,
+                };
+            }
             Turn::Keep { day, front: b.day }
         }
     }
@@ -135,6 +143,7 @@ fn compare(
 
 // What the k-th candidate does.
 pub(crate) fn try_candidate(
+    settled: bool,
     back: bool,
     pace: Pace,
     seed: Seed,
@@ -146,7 +155,7 @@ pub(crate) fn try_candidate(
     front: u32,
     k: u32,
 ) -> Turn
-    ensures { λ r. ⌜ (closedOk (now (closed .entry)) ≡ true → Front mask (now (closed .entry)) convention front newest → Compared mask (now (closed .entry)) convention newest (turnOf mask (now (closed .entry)) convention back pace seed exit newest k) r) ⌝ }
+    ensures { λ r. ⌜ (closedOk (now (closed .entry)) ≡ true → Front mask (now (closed .entry)) convention front newest → Compared mask (now (closed .entry)) convention newest (turnKept settled mask (now (closed .entry)) convention back pace seed exit newest k) r) ⌝ }
 {
     let next = candidate(back, pace, seed, k);
     match next {
@@ -155,7 +164,7 @@ pub(crate) fn try_candidate(
             if is_past(back, exit, d.day) {
                 return Turn::Past;
             }
-            compare(d.day, newest, front, convention, mask, closed)
+            compare(settled, d.day, newest, front, convention, mask, closed)
         }
     }
 }

@@ -1,6 +1,6 @@
 // The loop over the candidates.
 ghost use mathlib.Core.Path.{_≡_};
-ghost use Rattle.steps.specs.Candidates.{turnOf};
+ghost use Rattle.steps.specs.Settled.{turnKept};
 ghost use Rattle.steps.specs.Generate.{walk};
 ghost use Rattle.working.specs.Part.{Begun, held};
 ghost use Rattle.working.specs.Turning.{Walking};
@@ -19,9 +19,10 @@ pub enum Walked {
     Refused(u8),
 }
 
-// Candidates are put behind the `start` dates that are there, up to the first beyond the exit date. No
-// candidate from 876,217 on is a day of the span, so 2 is what the loop would meet there.
+// Candidates are put behind the `start` dates that are there, as adjusted in a settled build, up to the first beyond the exit
+// date. No candidate from 876,217 on is a day of the span, so 2 is what the loop would meet there.
 pub fn walk(
+    settled: bool,
     back: bool,
     pace: Pace,
     seed: Seed,
@@ -34,7 +35,7 @@ pub fn walk(
     work: &mut [u32],
     marks: &mut [u8],
 ) -> Walked
-    ensures { λ r. ⌜ (Begun (now (closed .entry)) room start (now (work .entry)) (now (marks .entry)) → Walking mask (now (closed .entry)) convention back room (walk (turnOf mask (now (closed .entry)) convention back pace seed exit) room 876216 1 (held back start (now (work .entry)) (now (marks .entry)))) r (now (work .exit)) (now (marks .exit))) ⌝ }
+    ensures { λ r. ⌜ (Begun (now (closed .entry)) room start (now (work .entry)) (now (marks .entry)) → Walking mask (now (closed .entry)) convention back room (walk (turnKept settled mask (now (closed .entry)) convention back pace seed exit) room 876216 1 (held back start (now (work .entry)) (now (marks .entry)))) r (now (work .exit)) (now (marks .exit))) ⌝ }
 {
     let way = search::convention_on(convention, mask, closed);
     let mut n = start;
@@ -43,6 +44,7 @@ pub fn walk(
     let mut newest = lists::newest(back, n, work);
     while k <= 876216 {
         let t = candidates::try_candidate(
+            settled,
             back,
             pace,
             seed,

@@ -10,7 +10,7 @@ use Rattle.date.specs.Made.{given-day}
 use Rattle.calendar.specs.Open.{closedOk}
 use Rattle.calendar.specs.Adjust.{adjusted}
 use Rattle.working.specs.Turning.{Front}
-use Rattle.working.proofs.Turns.{compare-stop, compare-closed, compare-skip, compare-keep}
+use Rattle.working.proofs.Turns.{compare-stop, compare-closed, compare-skip, compare-settle, compare-keep}
 use borrow.Author.Needs.{needs}
 use Rattle.working.proofs.candidates.compare.Statement.{statement}
 use Rattle.working.proofs.candidates.compare.Tie as tie
@@ -38,7 +38,7 @@ enum-known-found c = search needs
 returns : tie.Need-returns
 returns c =
     let found = c .before .before .before .adjust in
-    λ ok f. compare-stop _ _ _ _ _ (found .result) (found .ensures ok) (c .before .found .given .0 .0) (c .before .found .given .1)
+    λ ok f. compare-stop _ _ _ _ _ _ (found .result) (found .ensures ok) (c .before .found .given .0 .0) (c .before .found .given .1)
 
 enum-known-found-2 : tie.Need-enum-known-found-2
 enum-known-found-2 c = search needs
@@ -55,17 +55,22 @@ enum-known-moved-2 c = search needs
 returns-2 : tie.Need-returns-2
 returns-2 c =
     let m = c .before .before .before .before .before in
-    λ ok f. compare-skip _ _ _ _ _ _ (known (m .before) ok f) (m .adjust2 .result) (m .adjust2 .ensures ok) (c .before .before .before .moved2 .given .0 .0) (c .before .before .before .moved2 .given .1) (c .if2 .taken)
+    λ ok f. compare-skip _ _ _ _ _ _ _ (known (m .before) ok f) (m .adjust2 .result) (m .adjust2 .ensures ok) (c .before .before .before .moved2 .given .0 .0) (c .before .before .before .moved2 .given .1) (c .if2 .taken)
 
 returns-3 : tie.Need-returns-3
 returns-3 c =
-    let m = c .before .before .before in
-    λ ok f. compare-closed _ _ _ _ _ _ (known (m .before) ok f) (m .adjust2 .result) (m .adjust2 .ensures ok) (c .before .moved .given .0 .0) (c .before .moved .given .1)
+    let m = c .before .before .before .before .before .before in
+    λ ok f. compare-settle _ _ _ _ _ _ _ (known (m .before) ok f) (m .adjust2 .result) (m .adjust2 .ensures ok) (c .before .before .before .before .moved2 .given .0 .0) (c .before .before .before .before .moved2 .given .1) (c .before .if2 .left) (c .if3 .taken)
 
 returns-4 : tie.Need-returns-4
 returns-4 c =
-    let m = c .before .before .before .before .before in
-    λ ok f. compare-keep _ _ _ _ _ _ (known (m .before) ok f) (m .adjust2 .result) (m .adjust2 .ensures ok) (c .before .before .before .moved2 .given .0 .0) (c .before .before .before .moved2 .given .1) (c .if2 .left)
+    let m = c .before .before .before in
+    λ ok f. compare-closed _ _ _ _ _ _ _ (known (m .before) ok f) (m .adjust2 .result) (m .adjust2 .ensures ok) (c .before .moved .given .0 .0) (c .before .moved .given .1)
+
+returns-5 : tie.Need-returns-5
+returns-5 c =
+    let m = c .before .before .before .before .before .before in
+    λ ok f. compare-keep _ _ _ _ _ _ _ (known (m .before) ok f) (m .adjust2 .result) (m .adjust2 .ensures ok) (c .before .before .before .before .moved2 .given .0 .0) (c .before .before .before .before .moved2 .given .1) (c .before .if2 .left) (c .if3 .left)
 
 pub compare-spec : {M : Type 1} → statement M
 compare-spec =
@@ -80,4 +85,5 @@ compare-spec =
     enum-known-moved-2
     returns-2
     returns-3
-    returns-4)
+    returns-4
+    returns-5)
