@@ -1,7 +1,7 @@
 -- One step after another: what a step has left is handed on, and a refusal stays.
 -- Assumes nothing.
 use mathlib.Core.Path.{_≡_, refl, sym, _∙_}
-use mathlib.Core.Bool.{Bool}
+use mathlib.Core.Bool.{Bool, false}
 use mathlib.Core.List.{List}
 use Prim.Native.Nat.{ℕ, _<_}
 use Rattle.refusal.specs.Answer.{Answer, given, refused, then}
@@ -11,8 +11,10 @@ use Rattle.steps.specs.declared.Pace.{Pace}
 use Rattle.steps.specs.declared.Seed.{Seed}
 use Rattle.steps.specs.declared.Request.{Request}
 use Rattle.steps.specs.Rules.{paceOf}
-use Rattle.steps.specs.Candidates.{seedOf, turnOf}
+use Rattle.steps.specs.Candidates.{seedOf}
 use Rattle.steps.specs.Generate.{Lists, Walk, Made, newest, walk, candidates, lastTry}
+use Rattle.steps.specs.Settled.{turnKept}
+use Rattle.steps.specs.SettledLaws.{turn-as-is}
 use Rattle.working.specs.declared.Filled.{Filled}
 use Rattle.working.specs.declared.Filled.the-variants as filled-is
 use Rattle.working.specs.declared.adds.Added.{Added}
@@ -90,6 +92,7 @@ pub generates-as : {room : ℕ} {o o′ : Answer Made} {r : Generated} {work mar
 generates-as e p = record { says = p .says ∙ e; lies = p .lies }
 
 -- ---- the loop that was run is the one that the definition says
-pub loop-is : (q : Request) (closed : List ℕ) (room : ℕ) (back : Bool) (pace : Pace) (seed : Seed) (day exit day′ exit′ : ℕ) (l : Lists) → pace ≡ paceOf (q .tenor) → seed ≡ seedOf (q .monthend) day → day ≡ day′ → exit ≡ exit′ → walk (turnOf (q .mask) closed (q .convention) back pace seed exit) room 876216 1 l ≡ candidates q closed room back day′ exit′ l
+pub loop-is : (q : Request) (closed : List ℕ) (room : ℕ) (back : Bool) (pace : Pace) (seed : Seed) (day exit day′ exit′ : ℕ) (l : Lists) → pace ≡ paceOf (q .tenor) → seed ≡ seedOf (q .monthend) day → day ≡ day′ → exit ≡ exit′ → walk (turnKept false (q .mask) closed (q .convention) back pace seed exit) room 876216 1 l ≡ candidates q closed room back day′ exit′ l
 unfolding candidates lastTry
-loop-is q closed room back pace seed day exit day′ exit′ l a b c d = rw (a, b, c, d) refl
+loop-is q closed room back pace seed day exit day′ exit′ l a b c d =
+    rw (turn-as-is (q .mask) closed (q .convention) back pace seed exit, a, b, c, d) refl
