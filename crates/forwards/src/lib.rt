@@ -31,7 +31,9 @@ fn forward_from(
     let pace = candidates::pace_of(tenor);
     let exit = backwards::anchor_or(q.penultimate.day, q.termination.day);
     let seed = seeds::seed_of(q.monthend, day);
+    let settled = false;
     let walked = walks::walk(
+        settled,
         false,
         pace,
         seed,
