@@ -2,11 +2,13 @@
 ghost use mathlib.Core.Path.{_≡_};
 ghost use mathlib.Core.Bool.{true};
 ghost use Rattle.steps.specs.Rules.{paceOf};
-ghost use Rattle.steps.specs.Generate.{anchorOr, backwardFrom, backward};
+ghost use Rattle.steps.specs.Generate.{anchorOr};
+ghost use Rattle.steps.specs.Settled.{keptFrom, keptBackward};
 ghost use Rattle.working.specs.Part.{Part, Begun, held};
 ghost use Rattle.backwards.specs.Making.{Checked, Generates};
 use steps::Pace;
 use steps::Request;
+use steps::rules;
 use steps::seeds;
 use working::Filled;
 use working::candidates;
@@ -47,13 +49,14 @@ fn backward_from(
     work: &mut [u32],
     marks: &mut [u8],
 ) -> Generated
-    ensures { λ r. ⌜ (pace ≡ paceOf (q .tenor) → Begun (now (closed .entry)) room n (now (work .entry)) (now (marks .entry)) → Generates room (backwardFrom q (now (closed .entry)) room (held true n (now (work .entry)) (now (marks .entry)))) r (now (work .exit)) (now (marks .exit))) ⌝ }
+    ensures { λ r. ⌜ (pace ≡ paceOf (q .tenor) → Begun (now (closed .entry)) room n (now (work .entry)) (now (marks .entry)) → Generates room (keptFrom q (now (closed .entry)) room (held true n (now (work .entry)) (now (marks .entry)))) r (now (work .exit)) (now (marks .exit))) ⌝ }
 {
     let convention = q.convention;
     let day = anchor_or(q.penultimate.day, q.termination.day);
     let exit = anchor_or(q.first.day, q.effective.day);
     let seed = seeds::seed_of(q.monthend, day);
     let walked = walks::walk(
+        rules::settles(q),
         true,
         pace,
         seed,
@@ -90,7 +93,7 @@ pub fn backward(
     work: &mut [u32],
     marks: &mut [u8],
 ) -> Generated
-    ensures { λ r. ⌜ (Checked q (now (closed .entry)) → Part room 0 (now (work .entry)) (now (marks .entry)) → Generates room (backward q (now (closed .entry)) room) r (now (work .exit)) (now (marks .exit))) ⌝ }
+    ensures { λ r. ⌜ (Checked q (now (closed .entry)) → Part room 0 (now (work .entry)) (now (marks .entry)) → Generates room (keptBackward q (now (closed .entry)) room) r (now (work .exit)) (now (marks .exit))) ⌝ }
 {
     let tenor = q.tenor;
     let pace = candidates::pace_of(tenor);

@@ -5,7 +5,7 @@ use Rattle.working.specs.Held.{begun-of}
 use Rattle.working.specs.Paces.{pace-checked}
 use Rattle.backwards.proofs.Backing.{begun-is}
 use mathlib.Core.Path.{_∙_}
-use Rattle.steps.specs.Generate.{backward}
+use Rattle.steps.specs.Settled.{keptBackward}
 use Rattle.backwards.specs.Chains.{filled-ends, filled-makes}
 use borrow.Author.Needs.{needs}
 use Rattle.backwards.proofs.backward.Statement.{statement}
@@ -42,7 +42,7 @@ same-length-2 : tie.Need-same-length-2
 same-length-2 c = search needs
 
 returns : tie.Need-returns
-unfolding backward
+unfolding keptBackward
 returns c = λ ok p.
     let paced = c .before .before .before .before .before .before .before .before .before .before .before .pace-of .ensures ∙ pace-checked _ (ok .tenor) in
     filled-ends (filling-as (begun-is _ _ _ _ paced (c .before .before .before .before .before .before .before .before .before .before .seed-of .ensures)) (c .before .before .before .before .before .before .before .begin .ensures p)) _ _ (c .before .begun .given .1)
@@ -54,7 +54,7 @@ same-length-4 : tie.Need-same-length-4
 same-length-4 c = search needs
 
 returns-2 : tie.Need-returns-2
-unfolding backward
+unfolding keptBackward
 returns-2 c = λ ok p.
     let paced = c .before .before .before .before .before .before .before .before .before .before .before .before .before .before .before .before .before .before .pace-of .ensures ∙ pace-checked _ (ok .tenor) in
     let a = filling-as (begun-is _ _ _ _ paced (c .before .before .before .before .before .before .before .before .before .before .before .before .before .before .before .before .before .seed-of .ensures)) (c .before .before .before .before .before .before .before .before .before .before .before .before .before .before .begin .ensures p) in

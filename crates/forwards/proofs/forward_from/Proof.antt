@@ -4,7 +4,7 @@ use Rattle.working.specs.Held.{begun-of}
 use Rattle.working.specs.Paces.{pace-checked}
 use mathlib.Core.Path.{refl, _∙_}
 use Rattle.steps.specs.Generate.{forwardFrom}
-use Rattle.backwards.specs.Chains.{walking-as, walked-stands, walked-ends, walked-makes, loop-is}
+use Rattle.backwards.specs.Chains.{walking-as, walked-stands, walked-ends, walked-makes, plain-loop-is}
 use borrow.Author.Needs.{needs}
 use Rattle.forwards.proofs.forward_from.Statement.{statement}
 use Rattle.forwards.proofs.forward_from.Tie as tie
@@ -46,7 +46,7 @@ same-length-2 c = search needs
 returns : tie.Need-returns
 unfolding forwardFrom
 returns c = λ ok b.
-    let is = loop-is _ _ _ _ _ _ _ _ _ _ _ (c .before .before .before .before .before .before .before .before .before .before .before .before .pace-of .ensures ∙ pace-checked _ (ok .tenor)) (c .before .before .before .before .before .before .before .before .before .before .seed-of .ensures) refl (c .before .before .before .before .before .before .before .before .before .before .before .anchor-or .ensures) in
+    let is = plain-loop-is _ _ _ _ _ _ _ _ _ _ _ (c .before .before .before .before .before .before .before .before .before .before .before .before .pace-of .ensures ∙ pace-checked _ (ok .tenor)) (c .before .before .before .before .before .before .before .before .before .before .seed-of .ensures) refl (c .before .before .before .before .before .before .before .before .before .before .before .anchor-or .ensures) in
     walked-ends (walking-as is (c .before .before .before .before .before .before .before .walk .ensures b)) _ _ (c .before .walked .given .1)
 
 same-length-3 : tie.Need-same-length-3
@@ -58,7 +58,7 @@ same-length-4 c = search needs
 returns-2 : tie.Need-returns-2
 unfolding forwardFrom
 returns-2 c = λ ok b.
-    let is = loop-is _ _ _ _ _ _ _ _ _ _ _ (c .before .before .before .before .before .before .before .before .before .before .before .before .before .before .before .before .before .before .before .pace-of .ensures ∙ pace-checked _ (ok .tenor)) (c .before .before .before .before .before .before .before .before .before .before .before .before .before .before .before .before .before .seed-of .ensures) refl (c .before .before .before .before .before .before .before .before .before .before .before .before .before .before .before .before .before .before .anchor-or .ensures) in
+    let is = plain-loop-is _ _ _ _ _ _ _ _ _ _ _ (c .before .before .before .before .before .before .before .before .before .before .before .before .before .before .before .before .before .before .before .pace-of .ensures ∙ pace-checked _ (ok .tenor)) (c .before .before .before .before .before .before .before .before .before .before .before .before .before .before .before .before .before .seed-of .ensures) refl (c .before .before .before .before .before .before .before .before .before .before .before .before .before .before .before .before .before .before .anchor-or .ensures) in
     let a = walking-as is (c .before .before .before .before .before .before .before .before .before .before .before .before .before .before .walk .ensures b) in
     let e = c .before .before .before .before .before .before .before .before .walked2 .given .1 in
     let p = walked-stands a _ _ _ e in
