@@ -3,7 +3,7 @@ ghost use mathlib.Core.Path.{_≡_};
 ghost use mathlib.Core.Bool.{true};
 ghost use Rattle.steps.specs.Rules.{paceOf};
 ghost use Rattle.steps.specs.Generate.{anchorOr};
-ghost use Rattle.steps.specs.Settled.{keptFrom, keptBackward};
+ghost use Rattle.steps.specs.Fewer.{keptFrom, keptBackward};
 ghost use Rattle.working.specs.Part.{Part, Begun, held};
 ghost use Rattle.backwards.specs.Making.{Checked, Generates};
 use steps::Pace;

@@ -23,7 +23,7 @@ use Rattle.steps.specs.declared.Built.{Built}
 use Rattle.steps.specs.Rules.{ruleInForce, tenorInForce}
 use Rattle.steps.specs.Generate.{generate}
 use Rattle.steps.specs.Finish.{Merged, mergeEnd, mergeFront, mergeFrontIf, meetAtFront, wednesdays, finish}
-use Rattle.steps.specs.Settled.{fewAdjustments, keptFinish}
+use Rattle.steps.specs.Fewer.{fewAdjustments, keptFinish}
 use Rattle.steps.specs.Build.{Schedule, stepsOf, answered, over, datesAfter, flagsAfter, Written}
 use Rattle.finish.specs.declared.merges.Start.{Start}
 use Rattle.finish.specs.declared.merges.Start.the-variants as start-is

@@ -28,7 +28,7 @@ use Rattle.steps.specs.declared.Rule.{Rule}
 use Rattle.steps.specs.declared.Rule.the-variants.{ThirdWednesday, ThirdWednesdayInclusive}
 use Rattle.steps.specs.declared.Request.{Request}
 use Rattle.steps.specs.Finish.{moved, each, between, onFirst, onLast, onMiddle, firstMove, lastMove, middleMove, seedAtEnd, wednesdays}
-use Rattle.steps.specs.Settled.{settles, middleUnless, lastAndMiddle, fewAdjustments}
+use Rattle.steps.specs.Fewer.{settles, middleUnless, lastAndMiddle, fewAdjustments}
 use Rattle.finish.specs.declared.moving.Done.{Done}
 use Rattle.finish.specs.declared.moving.Done.the-variants.{Whole, Refused}
 use Rattle.finish.specs.Moving.{done}

@@ -11,7 +11,7 @@ use borrow.Author.Tests.{le-leb, lt-leb, eq-eqb, ne-eqb, eqb-true, leb-true}
 use Rattle.refusal.specs.Answer.{Answer, refused, then, UNEVEN, ROOM}
 use Rattle.date.specs.Civil.{pickN}
 use Rattle.steps.specs.declared.Request.{Request}
-use Rattle.steps.specs.Settled.{keptFinish}
+use Rattle.steps.specs.Fewer.{keptFinish}
 use Rattle.steps.specs.declared.Built.{Built}
 use Rattle.steps.specs.Build.{Schedule, Written, answered, datesAfter, flagsAfter}
 use Rattle.finish.specs.Finishing.{Lent, lentRefusal, unlessRefused, completed, scheduled, refusedBuilt}

@@ -15,8 +15,9 @@ use Rattle.steps.specs.declared.Built.{Built}
 use Rattle.steps.specs.Rules.{isZero, isBackward, ruleInForce}
 use Rattle.steps.specs.Table.{firstRow, inputRows}
 use Rattle.steps.specs.TableLaws.{accepted}
-use Rattle.steps.specs.Generate.{nothing, put, zeroDates, backward, forward, generateBy, generate}
-use Rattle.steps.specs.Finish.{finish}
+use Rattle.steps.specs.Generate.{nothing, put, zeroDates, forward}
+use Rattle.steps.specs.Fewer.{keptBackward, keptBy, kept, keptFinish, keptSteps}
+use Rattle.steps.specs.FewerLaws.{kept-steps}
 use Rattle.steps.specs.Build.{Schedule, stepsOf, admitted, buildOf, answered, datesAfter, flagsAfter, Written}
 use Rattle.working.specs.declared.Filled.{Filled}
 use Rattle.working.specs.declared.Filled.the-variants as filled-is
@@ -51,20 +52,20 @@ module _ (q : Request) (closed : List ℕ) (rule : Rule) (r : rule ≡ ruleInFor
   in-force : z ≡ isZero (ruleInForce q)
   in-force = p ∙ ap isZero r
 
-  pub generate-zero : (room : ℕ) → z ≡ true → zeroDates q room ≡ generate q closed room
-  unfolding generate generateBy
+  pub generate-zero : (room : ℕ) → z ≡ true → zeroDates q room ≡ kept q closed room
+  unfolding kept keptBy
   generate-zero room e = rw (sym in-force ∙ e) refl
 
   module _ (room : ℕ) (e : z ≡ false) (b : Bool) (s : b ≡ isBackward rule) where
     in-back : b ≡ isBackward (ruleInForce q)
     in-back = s ∙ ap isBackward r
 
-    pub generate-back : b ≡ true → backward q closed room ≡ generate q closed room
-    unfolding generate generateBy
+    pub generate-back : b ≡ true → keptBackward q closed room ≡ kept q closed room
+    unfolding kept keptBy
     generate-back h = rw (sym in-force ∙ e, sym in-back ∙ h) refl
 
-    pub generate-forth : b ≡ false → forward q closed room ≡ generate q closed room
-    unfolding generate generateBy
+    pub generate-forth : b ≡ false → forward q closed room ≡ kept q closed room
+    unfolding kept keptBy
     generate-forth h = rw (sym in-force ∙ e, sym in-back ∙ h) refl
 
 -- ---- the checks
@@ -87,20 +88,20 @@ pub refusal-written : (q : Request) (o : Answer Schedule) (k : ℕ) (r : Built) 
 unfolding refusedBuilt answered datesAfter flagsAfter
 refusal-written q o k r dates flags b e = rw (← e) (record { answer = b; dates-after = refl; flags-after = refl })
 
-module _ (q : Request) (closed : List ℕ) (lent : ℕ) {room : ℕ} {g : Generated} {work marks : List ℕ} (p : Generates room (generate q closed room) g work marks) (least : room ≡ min lent 4096) where
+module _ (q : Request) (closed : List ℕ) (lent : ℕ) {room : ℕ} {g : Generated} {work marks : List ℕ} (p : Generates room (kept q closed room) g work marks) (least : room ≡ min lent 4096) where
   pub run-stop : (k : ℕ) → g ≡ generated-is.Refused k → refused k ≡ stepsOf q closed lent
-  unfolding stepsOf generated
+  unfolding keptSteps generated
   run-stop k e =
-      let v : generated g work marks ≡ generate q closed room = p .says in
-      let w : generate q closed room ≡ refused k = sym (rw e at v) in
-      then-refused _ k _ (rw least at w)
+      let v : generated g work marks ≡ kept q closed room = p .says in
+      let w : kept q closed room ≡ refused k = sym (rw e at v) in
+      then-refused _ k _ (rw least at w) ∙ sym (kept-steps q closed lent)
 
-  pub run-on : (from marked n tries seed : ℕ) → g ≡ generated-is.Ready from marked n tries seed → then (finish q closed seed (take n (drop from work)) (take (n - 1) (drop marked marks))) (scheduled tries) ≡ stepsOf q closed lent
-  unfolding stepsOf generated scheduled
+  pub run-on : (from marked n tries seed : ℕ) → g ≡ generated-is.Ready from marked n tries seed → then (keptFinish q closed seed (take n (drop from work)) (take (n - 1) (drop marked marks))) (scheduled tries) ≡ stepsOf q closed lent
+  unfolding keptSteps generated scheduled
   run-on from marked n tries seed e =
-      let v : generated g work marks ≡ generate q closed room = p .says in
-      let w : generate q closed room ≡ given (record { dates = take n (drop from work); flags = take (n - 1) (drop marked marks); tries = tries; seed = seed }) = sym (rw e at v) in
-      then-given _ _ _ _ (rw least at w) refl
+      let v : generated g work marks ≡ kept q closed room = p .says in
+      let w : kept q closed room ≡ given (record { dates = take n (drop from work); flags = take (n - 1) (drop marked marks); tries = tries; seed = seed }) = sym (rw e at v) in
+      then-given _ _ _ _ (rw least at w) refl ∙ sym (kept-steps q closed lent)
 
   pub run-lies : (from marked n tries seed : ℕ) → g ≡ generated-is.Ready from marked n tries seed → (1 ≤ n) × (n ≤ room) × (from + n ≤ 4096) × (marked + (n - 1) ≤ 4096)
   unfolding Lies
@@ -124,7 +125,7 @@ module _ (q : Request) (closed : List ℕ) (dates flags number : ℕ) (p : numbe
   build-checked e = (checked q closed dates flags (sym p ∙ e), accepted q closed dates flags (sym p ∙ e) .even)
 
 -- the last steps on a part of the working lists that belongs together with what is lent
-pub finish-is : (q : Request) (closed : List ℕ) (seed tries : ℕ) (ds ds′ fs fs′ dates flags : List ℕ) → ds ≡ ds′ → fs ≡ fs′ → Lent ds fs dates flags → completed q closed seed tries ds fs (length dates) (length flags) ≡ then (finish q closed seed ds′ fs′) (scheduled tries)
+pub finish-is : (q : Request) (closed : List ℕ) (seed tries : ℕ) (ds ds′ fs fs′ dates flags : List ℕ) → ds ≡ ds′ → fs ≡ fs′ → Lent ds fs dates flags → completed q closed seed tries ds fs (length dates) (length flags) ≡ then (keptFinish q closed seed ds′ fs′) (scheduled tries)
 finish-is q closed seed tries ds ds′ fs fs′ dates flags a b l = sym (completed-on q closed seed tries ds fs (length dates) (length flags) 0 (lent-fits l) refl) ∙ rw (a, b) refl
 
 -- empty working lists, and as much room as is lent

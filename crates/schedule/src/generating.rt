@@ -1,5 +1,6 @@
 // The dates of a build, by the rule in force.
-ghost use Rattle.steps.specs.Generate.{zeroDates, generate};
+ghost use Rattle.steps.specs.Generate.{zeroDates};
+ghost use Rattle.steps.specs.Fewer.{kept};
 ghost use Rattle.working.specs.Part.{Part};
 ghost use Rattle.backwards.specs.Making.{Checked, Generates};
 use backwards::Generated;
@@ -38,7 +39,7 @@ pub(crate) fn generate(
 ) -> Generated
     requires { ⌜ Checked q (now closed) ⌝ }
     requires { ⌜ Part room 0 (now work) (now marks) ⌝ }
-    ensures { λ r. ⌜ Generates room (generate q (now (closed .entry)) room) r (now (work .exit)) (now (marks .exit)) ⌝ }
+    ensures { λ r. ⌜ Generates room (kept q (now (closed .entry)) room) r (now (work .exit)) (now (marks .exit)) ⌝ }
 {
     let rule = rules::rule_in_force(q);
     if rules::is_zero(rule) {

@@ -5,8 +5,8 @@ ghost use Prim.Native.Nat.{_+_, _-_, _≤_, min};
 ghost use lib.ListN.{length, take, drop};
 ghost use Rattle.refusal.specs.Answer.{then};
 ghost use Rattle.calendar.specs.Open.{closedOk};
-ghost use Rattle.steps.specs.Finish.{finish};
 ghost use Rattle.steps.specs.Build.{Written, stepsOf, buildOf};
+ghost use Rattle.steps.specs.Fewer.{keptFinish};
 ghost use Rattle.working.specs.Part.{Part};
 ghost use Rattle.backwards.specs.Making.{Checked};
 ghost use Rattle.finish.specs.Finishing.{scheduled};
@@ -40,7 +40,7 @@ fn finish_part(
     requires { ⌜ (closedOk (now closed) ≡ true) × (length (now work) ≡ 4096) × (length (now marks) ≡ 4096) ⌝ }
     requires { ⌜ (1 ≤ n) × (from + n ≤ 4096) × (marked + (n - 1) ≤ 4096) ⌝ }
     requires { ⌜ (n ≤ length (now dates)) × (length (now dates) ≡ length (now flags)) ⌝ }
-    ensures { λ r. ⌜ Written q (then (finish q (now (closed .entry)) seed (take n (drop from (now (work .entry)))) (take (n - 1) (drop marked (now (marks .entry))))) (scheduled tries)) r (now (dates .entry)) (now (flags .entry)) (now (dates .exit)) (now (flags .exit)) ⌝ }
+    ensures { λ r. ⌜ Written q (then (keptFinish q (now (closed .entry)) seed (take n (drop from (now (work .entry)))) (take (n - 1) (drop marked (now (marks .entry))))) (scheduled tries)) r (now (dates .entry)) (now (flags .entry)) (now (dates .exit)) (now (flags .exit)) ⌝ }
 {
     let end = from + n;
     let last = marked + (n - 1);

@@ -22,7 +22,7 @@ use Rattle.steps.specs.declared.Request.{Request}
 use Rattle.steps.specs.declared.Rule.{Rule}
 use Rattle.steps.specs.Rules.{isNone, ruleUnder, ruleInForce, isBackward}
 use Rattle.steps.specs.Finish.{seedAsked, seedAtEnd}
-use Rattle.steps.specs.Settled.{settles}
+use Rattle.steps.specs.Fewer.{settles}
 
 -- ---- lengths
 pub none-test : (z : ℤ) → SFits w32 z → eqb (ofZ w32 z) 0 ≡ isNone z

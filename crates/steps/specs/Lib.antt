@@ -7,6 +7,6 @@ pub mod Candidates
 pub mod Generate
 pub mod Finish
 pub mod Build
-pub mod Settled
+pub mod Fewer
 pub mod Parts
-pub mod SettledLaws
+pub mod FewerLaws

@@ -1,7 +1,7 @@
 // The groups of rules that the steps speak of, and the rule and the tenor in force.
 ghost use mathlib.Core.Path.{_≡_};
 ghost use Rattle.steps.specs.Rules.{isZero, isBackward, onTwentieths, inImmMonths, isCredit, isOldCDS, ruleInForce, tenorInForce, tenorUnder};
-ghost use Rattle.steps.specs.Settled.{settles};
+ghost use Rattle.steps.specs.Fewer.{settles};
 use crate::Request;
 use crate::Rule;
 use crate::tenors;

@@ -19,7 +19,7 @@ use Rattle.calendar.specs.Stays.{adjust-again}
 use Rattle.steps.specs.declared.Pace.{Pace}
 use Rattle.steps.specs.declared.Seed.{Seed}
 use Rattle.steps.specs.Candidates.{candidate, isPast, unlessSame}
-use Rattle.steps.specs.Settled.{unlessPastKept, turnKept}
+use Rattle.steps.specs.Fewer.{unlessPastKept, turnKept}
 use Rattle.working.specs.declared.candidates.Turn.{Turn}
 use Rattle.working.specs.declared.candidates.Turn.the-variants.{Past, Skip, Keep, Stop}
 use Rattle.working.specs.Turning.{Front, told, Learnt, Compared}

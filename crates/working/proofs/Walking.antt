@@ -17,7 +17,7 @@ use Rattle.steps.specs.declared.Pace.{Pace}
 use Rattle.steps.specs.declared.Seed.{Seed}
 use Rattle.steps.specs.Candidates as steps
 use Rattle.steps.specs.Candidates.{candidate, isPast, unlessSame}
-use Rattle.steps.specs.Settled.{unlessPastKept, turnKept}
+use Rattle.steps.specs.Fewer.{unlessPastKept, turnKept}
 use Rattle.steps.specs.Generate.{Lists, Walk, newest, put, onTurn, walk}
 use Rattle.working.specs.declared.Filled.{Filled}
 use Rattle.working.specs.declared.Filled.the-variants as filled-is

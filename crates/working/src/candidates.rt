@@ -6,7 +6,7 @@ ghost use Rattle.date.specs.Date.{dated};
 ghost use Rattle.calendar.specs.Open.{closedOk};
 ghost use Rattle.calendar.specs.Adjust.{adjusted};
 ghost use Rattle.steps.specs.Candidates.{candidate, isPast};
-ghost use Rattle.steps.specs.Settled.{unlessPastKept, turnKept};
+ghost use Rattle.steps.specs.Fewer.{unlessPastKept, turnKept};
 ghost use Rattle.working.specs.Turning.{Front, Compared};
 ghost use Rattle.working.specs.Paces.{pace};
 use calendar::Convention;

@@ -2,7 +2,7 @@ use mathlib.Core.Path.{_≡_, refl, _∙_}
 use Prim.Native.Nat.{_-_, _≤_, _<_}
 use native.Mathlib.Omega.{arith}
 use lib.ListN.{length}
-use Rattle.steps.specs.Settled.{turnKept}
+use Rattle.steps.specs.Fewer.{turnKept}
 use Rattle.steps.specs.Generate.{newest, walk}
 use Rattle.working.specs.Part.{Begun, held}
 use borrow.Author.Needs.{needs}

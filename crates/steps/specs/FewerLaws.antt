@@ -24,7 +24,7 @@ use Rattle.steps.specs.Candidates.{Turn, past, skip, keep, unlessSame, u
 use Rattle.steps.specs.Generate.{Lists, Walk, Made, newest, onto, hasRoom, put, putUnless, putNew, onTurn, walk, candidates, lastTry, anchorOr, putAnchor, begun, putPenultimate, nothing, ended, backwardEnd, backSeed, backwardFrom, backward, generateBy, generate, madeBack}
 use Rattle.steps.specs.Finish.{Merged, each, moved, onFirst, onLast, onMiddle, wednesdays, unless, firstMove, lastMove, middleMove, seedAtEnd, adjustments, mergeEnd, mergeFront, finish}
 use Rattle.steps.specs.Build.{Schedule, stepsOf}
-use Rattle.steps.specs.Settled.{settles, unlessPastKept, turnKept, keptFrom, keptBackward, keptBy, kept, middleUnless, lastAndMiddle, fewAdjustments, keptFinish, keptSteps}
+use Rattle.steps.specs.Fewer.{settles, unlessPastKept, turnKept, keptFrom, keptBackward, keptBy, kept, middleUnless, lastAndMiddle, fewAdjustments, keptFinish, keptSteps}
 use Rattle.steps.specs.Parts.{on-first, on-last, on-middle, on-no-middle, Moved, each-moved, moved-on, as-many}
 
 then-then : {A B C : Type 0} (x : Answer A) (f : A → Answer B) (g : B → Answer C) → then (then x f) g ≡ then x (λ a. then (f a) g)

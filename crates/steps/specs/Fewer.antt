@@ -1,5 +1,5 @@
 -- The same steps with fewer adjustments: a Backward build without anchors and without end of month keeps each candidate as adjusted, and adjusts no
--- middle date at the end. SettledLaws shows that they give the same.
+-- middle date at the end. FewerLaws shows that they give the same.
 -- Assumes nothing.
 use Prim.Native.Nat.{ℕ, min}
 use mathlib.Core.Bool.{Bool, true, false, not, _&&_}
