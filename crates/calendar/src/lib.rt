@@ -1,10 +1,11 @@
 // Open days of a calendar: weekly closed days, Monday the lowest bit of the mask, and a lent list of closed dates.
 ghost use mathlib.Core.Path.{_≡_};
-ghost use Rattle.date.specs.Date.{dated, inBook};
+ghost use Rattle.date.specs.Date.{dated};
 ghost use Rattle.calendar.specs.Open.{calendarOk};
 ghost use Rattle.calendar.specs.Calendar.{checked, decided, checkOf, isOpenOf, adjustOf, lastOpenOf, isMonthEndOf, tenorOk, advancedOf};
 use date::Date;
 use date::Dated;
+use date::in_book;
 use period::Period;
 use period::Unit;
 
@@ -32,13 +33,6 @@ pub enum Decided {
     Yes,
     No,
     Refused(u8),
-}
-
-// A date that is given to a customer's function lies in the book.
-fn in_book(day: u32) -> bool
-    ensures { λ r. ⌜ r ≡ inBook day ⌝ }
-{
-    Date::FIRST.day <= day && day <= Date::LAST.day
 }
 
 fn is_sound(mask: u8, closed: &[u32]) -> bool

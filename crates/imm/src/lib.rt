@@ -1,10 +1,11 @@
 // IMM dates, and the codes that name them.
 ghost use mathlib.Core.Path.{_≡_};
-ghost use Rattle.date.specs.Date.{dated, inBook};
+ghost use Rattle.date.specs.Date.{dated};
 ghost use Rattle.imm.specs.Imm.{tested, coded, isImm, isImmIn, isCode, codeIn, dateIn, nextIn, nextWithCode, nextCodeIn, nextCodeWithCode};
 use codes::Coded;
 use date::Date;
 use date::Dated;
+use date::in_book;
 
 // Letters and digits.
 pub mod codes;
@@ -14,12 +15,6 @@ pub mod days;
 pub enum Tested {
     Is(bool),
     Refused(u8),
-}
-
-fn in_book(n: u32) -> bool
-    ensures { λ r. ⌜ r ≡ inBook n ⌝ }
-{
-    Date::FIRST.day <= n && n <= Date::LAST.day
 }
 
 // Whether a day number, in the book or not, is that of an IMM date.
