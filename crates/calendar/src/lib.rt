@@ -8,13 +8,12 @@ use date::Dated;
 use date::in_book;
 use period::Period;
 use period::Unit;
+use period::sign;
 
 // The search for open days from 1800 to 2399, for the crates above: on a list that they have checked.
 pub mod search;
 // The list of closed dates: its rule, and the place of a day in it.
 mod closed_dates;
-// The sign and the size of a count.
-mod count;
 
 pub enum Convention {
     Unadjusted,
@@ -141,8 +140,8 @@ pub fn advance(
     let day = date.day;
     if in_book(day) {
         if is_sound(mask, closed) {
-            let back = count::is_negative(tenor.length);
-            let size = count::size(tenor.length);
+            let back = sign::is_negative(tenor.length);
+            let size = sign::size(tenor.length);
             let unit = tenor.unit;
             if is_short(size, unit) {
                 return search::advance(day, back, size, unit, convention, monthend, mask, closed);
