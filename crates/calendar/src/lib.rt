@@ -43,7 +43,8 @@ fn is_sound(mask: u8, closed: &[u32]) -> bool
     closed_dates::keep_rule(closed)
 }
 
-fn is_short(size: u32, unit: Unit) -> bool
+// The size is at most 366 days, 520 weeks, 1,200 months or 100 years.
+pub fn is_short(size: u32, unit: Unit) -> bool
     ensures { λ r. ⌜ r ≡ tenorOk size unit ⌝ }
 {
     match unit {
