@@ -1,5 +1,6 @@
 -- `calendar::is_short` meets its contract.
 -- Assumes nothing.
+use mathlib.Core.Path.{refl}
 use Rattle.calendar.specs.Calendar.{longest, tenorOk}
 use borrow.Author.Needs.{needs}
 use Rattle.calendar.proofs.is_short.Statement.{statement}
@@ -19,19 +20,19 @@ enum-told-4 c = search needs
 
 returns : tie.Need-returns
 unfolding tenorOk longest
-returns c = cc
+returns c = rw (c .enum-told .given .1) refl
 
 returns-2 : tie.Need-returns-2
 unfolding tenorOk longest
-returns-2 c = cc
+returns-2 c = rw (c .enum-told2 .given .1) refl
 
 returns-3 : tie.Need-returns-3
 unfolding tenorOk longest
-returns-3 c = cc
+returns-3 c = rw (c .enum-told3 .given .1) refl
 
 returns-4 : tie.Need-returns-4
 unfolding tenorOk longest
-returns-4 c = cc
+returns-4 c = rw (c .enum-told4 .given .1) refl
 
 pub is-short-spec : {M : Type 1} → statement M
 is-short-spec =
