@@ -14,7 +14,7 @@ use Rattle.steps.specs.Rules.{paceOf}
 use Rattle.steps.specs.Candidates.{Turn, seedOf}
 use Rattle.steps.specs.Generate.{Lists, Walk, Made, newest, walk, candidates, lastTry}
 use Rattle.steps.specs.Fewer.{turnKept}
-use Rattle.steps.specs.FewerLaws.{turn-as-is}
+use Rattle.steps.specs.Met.{turn-as-is}
 use Rattle.working.specs.declared.Filled.{Filled}
 use Rattle.working.specs.declared.Filled.the-variants as filled-is
 use Rattle.working.specs.declared.adds.Added.{Added}

@@ -7,7 +7,7 @@ use mathlib.Core.List.{List, [], _∷_}
 use native.Mathlib.Omega.{arith}
 use lib.ListN.{length}
 use borrow.Author.Tests.{eq-eqb}
-use Rattle.refusal.specs.Answer.{Answer, given, refused, need, then, BOOK}
+use Rattle.refusal.specs.Answer.{given, need, then, BOOK}
 use Rattle.refusal.specs.Laws.{need-given, holds, one-given, then-stepped}
 use Rattle.date.specs.Date.{withinSpan, monthIndex}
 use Rattle.calendar.specs.declared.Convention.{Convention}

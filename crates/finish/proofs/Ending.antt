@@ -3,7 +3,7 @@
 use mathlib.Core.Path.{_≡_, refl, ap, sym, _∙_}
 use mathlib.Core.Bool.{true, false}
 use mathlib.Core.List.{List}
-use Prim.Native.Nat.{ℕ, zero, suc, _-_, _*_, _≤_, _<_, min}
+use Prim.Native.Nat.{ℕ, zero, suc, _-_, _*_, _≤_, _<_}
 use native.Mathlib.Omega.{arith}
 use lib.IntN.{pos}
 use lib.ListN.{length, take, drop, length-drop}
@@ -12,7 +12,7 @@ use mir.Syntax.{w64}
 use mir.Val.{Fits}
 use borrow.Author.Tests.{lt-leb}
 use borrow.Author.Needs.{needs}
-use Rattle.refusal.specs.Answer.{Answer, given, refused, then}
+use Rattle.refusal.specs.Answer.{given, refused, then}
 use Rattle.period.specs.declared.Unit.the-variants.{Days}
 use Rattle.period.specs.declared.Period.{Period}
 use Rattle.calendar.specs.Open.{closedOk}
@@ -21,10 +21,9 @@ use Rattle.steps.specs.declared.Rule.the-variants.{Zero}
 use Rattle.steps.specs.declared.Request.{Request}
 use Rattle.steps.specs.declared.Built.{Built}
 use Rattle.steps.specs.Rules.{ruleInForce, tenorInForce}
-use Rattle.steps.specs.Generate.{generate}
-use Rattle.steps.specs.Finish.{Merged, mergeEnd, mergeFront, mergeFrontIf, meetAtFront, wednesdays, finish}
+use Rattle.steps.specs.Finish.{Merged, mergeEnd, mergeFront, mergeFrontIf, meetAtFront, wednesdays}
 use Rattle.steps.specs.Fewer.{fewAdjustments, keptFinish}
-use Rattle.steps.specs.Build.{Schedule, stepsOf, answered, over, datesAfter, flagsAfter, Written}
+use Rattle.steps.specs.Build.{answered, over, datesAfter, flagsAfter, Written}
 use Rattle.finish.specs.declared.merges.Start.{Start}
 use Rattle.finish.specs.declared.merges.Start.the-variants as start-is
 use Rattle.finish.specs.declared.moving.Done.{Done}
@@ -33,11 +32,6 @@ use Rattle.finish.specs.Moving.{done}
 use Rattle.finish.specs.Ends.{EndMerged, leftFrom, Short, FrontMerged}
 use Rattle.finish.specs.Lending.{written-refused, written-as}
 use Rattle.finish.specs.Finishing.{refusedBuilt, acceptedBuilt, pair, scheduled, merges, Lent}
-
--- ---- the steps of an accepted request: generating, then all that follows
-pub steps-last : (q : Request) (closed : List ℕ) (room : ℕ) → stepsOf q closed room ≡ then (generate q closed (min room 4096)) (λ made. then (finish q closed (made .seed) (made .dates) (made .flags)) (scheduled (made .tries)))
-unfolding stepsOf scheduled
-steps-last q closed room = refl
 
 -- ---- a refusal writes nothing
 pub refused-is : (n : ℕ) → record { number = n; count = 0; tries = 0; rule = Zero; tenor = record { length = pos 0; unit = Days } } ≡ refusedBuilt n

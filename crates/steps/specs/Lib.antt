@@ -9,4 +9,5 @@ pub mod Finish
 pub mod Build
 pub mod Fewer
 pub mod Parts
+pub mod Met
 pub mod FewerLaws

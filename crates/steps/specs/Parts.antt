@@ -1,13 +1,13 @@
 -- What moves the first date, the last one and the middle ones, said of a list that is given in these parts.
 -- Assumes nothing.
 use Prim.Native.Nat.{ℕ, suc, _+_, _-_}
-use mathlib.Core.Path.{_≡_, refl, sym, ap, _∙_}
+use mathlib.Core.Path.{_≡_, refl, ap, _∙_}
 use mathlib.Core.List.{List, [], _∷_, _++_}
 use native.Mathlib.Omega.{arith}
-use lib.ListN.{length, take, drop, length-append}
+use lib.ListN.{length, length-append}
 use lib.Seq.{take-append-seam, drop-append-seam, drop-append-add}
 use Rattle.refusal.specs.Answer.{Answer, given, refused, then}
-use Rattle.refusal.specs.Laws.{Stepped, then-stepped}
+use Rattle.refusal.specs.Laws.{then-stepped}
 use Rattle.steps.specs.Finish.{each, between, onFirst, onLast, onMiddle}
 
 module _ (f : ℕ → Answer ℕ) where
