@@ -11,7 +11,7 @@ use borrow.Author.Tests.{leb-true, eqb-true, eqb-false, eq-eqb, ne-eqb}
 use mathlib.Core.Logic.{⊎-elim}
 use native.Mathlib.Nat.{eq-or-lt-of-le}
 use Rattle.refusal.specs.Answer.{Answer, given, refused, need, then, BOOK, TENOR}
-use Rattle.refusal.specs.Laws.{holds, passed, failed, need-given, then-given, then-refused, then-stepped, never-both, one-given}
+use Rattle.refusal.specs.Laws.{holds, passed, failed, need-given, then-given, then-refused, then-stepped, never-both, one-given, both}
 use lib.IntN.{ℤ, natAbs}
 use Rattle.period.specs.Signed.{isNegative}
 use Rattle.period.specs.declared.Unit.{Unit}
@@ -23,7 +23,6 @@ use Rattle.date.specs.Made.{given-day, refused-day}
 use Rattle.calendar.specs.declared.Convention.{Convention}
 use Rattle.calendar.specs.declared.Convention.the-variants.{Following}
 use Rattle.calendar.specs.Open.{weeklyClosed, isOpen, closedOk, calendarOk}
-use Rattle.calendar.specs.Kept.{both}
 use Rattle.calendar.specs.Places.{LowerBound}
 use Rattle.calendar.specs.Adjust.{inSpan, firstOpen, found, sameMonth, unlessLeft, modified, byConvention, adjusted, towards, openSteps, advanced}
 use Rattle.calendar.specs.Calendar.{tenorOk}

@@ -2,13 +2,14 @@
 -- Assumes nothing.
 use Prim.Native.Nat.{ℕ, zero, suc, _+_, _≤_, _<_}
 use mathlib.Core.Path.{_≡_, refl}
-use mathlib.Core.Bool.{Bool, true, false, false≢true, _&&_}
+use mathlib.Core.Bool.{true}
 use mathlib.Core.List.{List, [], _∷_}
 use native.Mathlib.Omega.{arith}
 use native.Mathlib.Nat.{not-suc-le-zero, le-of-suc-le-suc}
 use lib.ListN.{length, getD}
 use lib.Dec.{leb, ltb}
 use borrow.Author.Tests.{le-leb, lt-ltb, leb-true, ltb-true}
+use Rattle.refusal.specs.Laws.{both}
 use Rattle.calendar.specs.Open.{ascending, closedOk}
 
 -- at most 4,096 dates, every two neighbours ascending, all from 657,072 to 876,216
@@ -19,9 +20,6 @@ pub record Rule (closed : List ℕ) : Type 0 where
   pub to : (k : ℕ) → k < length closed → getD closed k 0 ≤ 876216
 
 -- both halves of a test that passed
-pub both : (a b : Bool) → (a && b) ≡ true → (a ≡ true) × (b ≡ true)
-both true b e = (refl, e)
-both false b e = absurd (false≢true e)
 
 module _ (high : ℕ) where
   asc-first : (low x : ℕ) (xs : List ℕ) → ascending low high (x ∷ xs) ≡ true → low ≤ x

@@ -7,8 +7,8 @@ use mathlib.Core.Logic.{⊎-elim}
 use native.Mathlib.Nat.{not-suc-le-zero, eq-or-lt-of-le}
 use native.Mathlib.Omega.{arith}
 use lib.Dec.{eqb}
+use Rattle.refusal.specs.Laws.{both}
 use Rattle.calendar.specs.Open.{weeklyClosed}
-use Rattle.calendar.specs.Kept.{both}
 
 -- a week on is the same weekday
 pub week-on : (mask day : ℕ) → weeklyClosed mask (day + 7) ≡ weeklyClosed mask day

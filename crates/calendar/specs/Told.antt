@@ -6,13 +6,12 @@ use mathlib.Core.Bool.{Bool, true, false, not}
 use mathlib.Core.List.{List}
 use lib.Dec.{eqb}
 use Rattle.refusal.specs.Answer.{Answer, given, refused, need, CALENDAR}
-use Rattle.refusal.specs.Laws.{need-given, never-both}
+use Rattle.refusal.specs.Laws.{need-given, never-both, both}
 use Rattle.calendar.specs.declared.Checked.{Checked}
 use Rattle.calendar.specs.declared.Checked.the-variants as checked-is
 use Rattle.calendar.specs.declared.Decided.{Decided}
 use Rattle.calendar.specs.declared.Decided.the-variants as decided-is
 use Rattle.calendar.specs.Open.{closedOk, calendarOk}
-use Rattle.calendar.specs.Kept.{both}
 use Rattle.calendar.specs.Calendar.{Sound, sound, checked, decided, checkOf}
 
 -- a sound calendar's list keeps its rule

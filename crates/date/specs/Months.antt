@@ -2,7 +2,7 @@
 -- Assumes nothing.
 use Prim.Native.Nat.{ℕ, zero, suc, _+_, _-_, _*_, _/_, _≤_, _<_}
 use mathlib.Core.Path.{_≡_, refl, ap, sym}
-use mathlib.Core.Bool.{Bool, true, false, _&&_, false≢true}
+use mathlib.Core.Bool.{Bool, true, false, _&&_}
 use mathlib.Core.List.{List, [], _∷_}
 use native.Mathlib.Omega.{arith}
 use native.Mathlib.Numerals.{add-one}
@@ -10,6 +10,7 @@ use native.Mathlib.Nat.{zero-add}
 use lib.Dec.{leb, ltb}
 use lib.ListN.{getD, length}
 use borrow.Author.Tests.{lt-ltb, le-ltb, leb-true, ltb-true, ltb-false}
+use Rattle.refusal.specs.Laws.{both}
 use Rattle.date.specs.Civil.{pickN, leap, rowOf, monthLength, sumTo, monthIn, dayIn, placeOf}
 use Rattle.date.specs.declared.civil.Place.{Place}
 
@@ -56,14 +57,6 @@ unfolding sumTo monthIn dayIn
 placed [] j h = omega arith
 placed (l ∷ ls) j h = placed-go l ls j (ltb j l) refl (λ g. placed ls (j - l) (omega arith))
 
-both-left : (a b : Bool) → (a && b) ≡ true → a ≡ true
-both-left true b t = refl
-both-left false b t = t
-
-both-right : (a b : Bool) → (a && b) ≡ true → b ≡ true
-both-right true b t = t
-both-right false b t = absurd (false≢true t)
-
 -- ---- the two rows
 allLe : ℕ → List ℕ → Bool
 allLe b [] = true
@@ -72,8 +65,8 @@ allLe b (x ∷ xs) = leb x b && allLe b xs
 all-le : (b : ℕ) (xs : List ℕ) → allLe b xs ≡ true → (m : ℕ) → getD xs m 0 ≤ b
 unfolding allLe
 all-le b [] t m = omega arith
-all-le b (x ∷ xs) t zero = leb-true x b (both-left (leb x b) (allLe b xs) t)
-all-le b (x ∷ xs) t (suc m) = all-le b xs (both-right (leb x b) (allLe b xs) t) m
+all-le b (x ∷ xs) t zero = leb-true x b (both (leb x b) (allLe b xs) t .0)
+all-le b (x ∷ xs) t (suc m) = all-le b xs (both (leb x b) (allLe b xs) t .1) m
 
 pub row-le : (l : Bool) (m : ℕ) → getD (rowOf l) m 0 ≤ 31
 unfolding allLe rowOf
@@ -158,7 +151,7 @@ unfolding allLe sumTo
 sum-le-at [] t k = omega arith
 sum-le-at (x ∷ xs) t zero = omega arith
 sum-le-at (x ∷ xs) t (suc k) =
-    omega (arith, leb-true x 31 (both-left (leb x 31) (allLe 31 xs) t), sum-le-at xs (both-right (leb x 31) (allLe 31 xs) t) k)
+    omega (arith, leb-true x 31 (both (leb x 31) (allLe 31 xs) t .0), sum-le-at xs (both (leb x 31) (allLe 31 xs) t .1) k)
 
 pub sum-le : (l : Bool) (k : ℕ) → sumTo (rowOf l) k ≤ 31 * k
 unfolding allLe rowOf
@@ -193,8 +186,8 @@ unfolding allNear
 near-at l zero g t h = omega arith
 near-at l (suc n) g t h =
     near-go l n g (ltb g n) refl (omega arith)
-    (ltb-true _ _ (both-left (ltb (32 * n + 31) (sumTo (rowOf l) (n + 2))) (allNear l n) t))
-    (near-at l n g (both-right (ltb (32 * n + 31) (sumTo (rowOf l) (n + 2))) (allNear l n) t))
+    (ltb-true _ _ (both (ltb (32 * n + 31) (sumTo (rowOf l) (n + 2))) (allNear l n) t .0))
+    (near-at l n g (both (ltb (32 * n + 31) (sumTo (rowOf l) (n + 2))) (allNear l n) t .1))
 
 near : (l : Bool) (g : ℕ) → g < 11 → 32 * g + 31 < sumTo (rowOf l) (g + 2)
 unfolding allNear sumTo rowOf
@@ -239,8 +232,8 @@ allGe b (x ∷ xs) = leb b x && allGe b xs
 all-ge : (b : ℕ) (xs : List ℕ) → allGe b xs ≡ true → (m : ℕ) → m < length xs → b ≤ getD xs m 0
 unfolding allGe
 all-ge b [] t m h = omega arith
-all-ge b (x ∷ xs) t zero h = leb-true b x (both-left (leb b x) (allGe b xs) t)
-all-ge b (x ∷ xs) t (suc m) h = all-ge b xs (both-right (leb b x) (allGe b xs) t) m (omega arith)
+all-ge b (x ∷ xs) t zero h = leb-true b x (both (leb b x) (allGe b xs) t .0)
+all-ge b (x ∷ xs) t (suc m) h = all-ge b xs (both (leb b x) (allGe b xs) t .1) m (omega arith)
 
 row-ge : (l : Bool) (m : ℕ) → m < 12 → 28 ≤ getD (rowOf l) m 0
 unfolding allGe rowOf

@@ -1,20 +1,20 @@
 -- Laws of the functions that move a date, in the shape that the proofs of the code want.
 -- Assumes nothing.
 use Prim.Native.Nat.{ℕ, zero, suc, _+_, _-_, _*_, _/_, _%_, _≤_, _<_, min}
-use mathlib.Core.Path.{_≡_, refl, ap, _∙_, sym}
-use mathlib.Core.Bool.{Bool, true, false, false≢true, _&&_, cond}
+use mathlib.Core.Path.{_≡_, refl, ap, sym}
+use mathlib.Core.Bool.{Bool, true, false, false≢true, cond}
 use native.Mathlib.Omega.{arith}
 use lib.Dec.{leb, ltb}
-use lib.IntN.{ℤ, pos, negsuc, subℕ, _-ℤ_}
+use lib.IntN.{pos, negsuc, subℕ, _-ℤ_}
 use mir.Syntax.{w32}
 use mir.Val.{SFits, toZ, ofZ}
 use mir.Facts.{toZ-ofZ}
 use mir.ValLaws.{toZ-pos}
 use borrow.Author.Tests.{le-leb, lt-leb, leb-true, le-ltb}
-use Rattle.refusal.specs.Answer.{Answer, given, refused, need, then, BOOK}
-use Rattle.refusal.specs.Laws.{fails, after, holds}
+use Rattle.refusal.specs.Answer.{Answer, given, refused, then, BOOK}
+use Rattle.refusal.specs.Laws.{fails, after, holds, both}
 use Rattle.date.specs.declared.Fields.{Fields}
-use Rattle.date.specs.Civil.{monthLength, dayNumber, yearsGone, fieldsAt, fieldsOf, weekdayOf, daysUntil}
+use Rattle.date.specs.Civil.{monthLength, dayNumber, fieldsAt, fieldsOf, weekdayOf, daysUntil}
 use Rattle.date.specs.Date.{inBook, makeOf, withinSpan, step, inMonth, nthWeekdayOf}
 use Rattle.date.specs.Years.{years-few}
 use Rattle.date.specs.Round.{Valid, fields-valid}
@@ -111,17 +111,14 @@ module _ (n w m y : ℕ) (a : 1 ≤ w) (b : w ≤ 7) (e : 1 ≤ n) (f : n ≤ 5)
       (holds BOOK (leb w 7) _ _ (le-leb w 7 b) (holds BOOK (leb 1 n) _ _ (le-leb 1 n e) (holds BOOK (leb n 5) _ _ (le-leb n 5 f) h)))
 
 -- ---- a difference of two days of the book
-book-go : (a b : Bool) → (a && b) ≡ true → (a ≡ true) × (b ≡ true)
-book-go true b e = (refl, e)
-book-go false b e = absurd (false≢true e)
 
 pub book-le : (n : ℕ) → inBook n ≡ true → n ≤ 803168
 unfolding inBook
-book-le n e = leb-true n 803168 (book-go (leb 693961 n) (leb n 803168) e .1)
+book-le n e = leb-true n 803168 (both (leb 693961 n) (leb n 803168) e .1)
 
 pub book-from : (n : ℕ) → inBook n ≡ true → 693961 ≤ n
 unfolding inBook
-book-from n e = leb-true 693961 n (book-go (leb 693961 n) (leb n 803168) e .0)
+book-from n e = leb-true 693961 n (both (leb 693961 n) (leb n 803168) e .0)
 
 pos-sub : (a b : ℕ) → pos a -ℤ pos b ≡ subℕ a b
 pos-sub a zero = simp (le-ltb a 0 (omega arith)) (ap pos (omega arith))

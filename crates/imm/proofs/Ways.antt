@@ -12,7 +12,7 @@ use lib.Seq.{drop-cons}
 use borrow.Author.Needs.{needs}
 use borrow.Author.Tests.{le-leb, lt-leb, lt-ltb, le-ltb, eq-eqb, ne-eqb, leb-true, eqb-true}
 use Rattle.refusal.specs.Answer.{Answer, given, refused}
-use Rattle.refusal.specs.Laws.{then-given, then-refused}
+use Rattle.refusal.specs.Laws.{then-given, then-refused, both}
 use Rattle.date.specs.declared.Fields.{Fields}
 use Rattle.date.specs.declared.Date.{Date}
 use Rattle.date.specs.declared.Dated.{Dated}
@@ -21,7 +21,6 @@ use Rattle.date.specs.Civil.{fieldsOf, weekdayOf}
 use Rattle.date.specs.Date.{dated}
 use Rattle.date.specs.Made.{given-day, refused-day}
 use Rattle.imm.specs.declared.codes.Code.{Code}
-use Rattle.imm.specs.Order.{both-0, both-1}
 use Rattle.imm.specs.Imm.{mainMonth, inCycle, isImm, thirdWednesday, thirdOf, orElse, stride, nextFrom, letters, upper, placeIn, monthOf, isDigit, isPair, isCode, codeOf, dateFrom}
 
 -- ---- bytes
@@ -200,17 +199,17 @@ module _ (main : Bool) (s : List ℕ) where
   module _ (t : Bool) (e : t ≡ isCode main s) (h : t ≡ true) where
     pub code-length : length s ≡ 2
     unfolding isCode
-    code-length = eqb-true (length s) 2 (both-0 (eqb (length s) 2) (isPair main (getD s 0 0) (getD s 1 0)) (sym e ∙ h))
+    code-length = eqb-true (length s) 2 (both (eqb (length s) 2) (isPair main (getD s 0 0) (getD s 1 0)) (sym e ∙ h) .0)
 
     digit-ok : isDigit (getD s 1 0) ≡ true
     unfolding isCode isPair
     digit-ok =
-        both-1 (leb (monthOf (getD s 0 0)) 12) (isDigit (getD s 1 0))
-        (both-0 _ (inCycle main (monthOf (getD s 0 0))) (both-1 (eqb (length s) 2) (isPair main (getD s 0 0) (getD s 1 0)) (sym e ∙ h)))
+        both (leb (monthOf (getD s 0 0)) 12) (isDigit (getD s 1 0))
+        (both _ (inCycle main (monthOf (getD s 0 0))) (both (eqb (length s) 2) (isPair main (getD s 0 0) (getD s 1 0)) (sym e ∙ h) .1) .0) .1
 
     pub code-digit : (48 ≤ getD s 1 0) × (getD s 1 0 ≤ 57)
     unfolding isDigit
     code-digit = (
-      leb-true 48 (getD s 1 0) (both-0 (leb 48 (getD s 1 0)) (leb (getD s 1 0) 57) digit-ok),
-      leb-true (getD s 1 0) 57 (both-1 (leb 48 (getD s 1 0)) (leb (getD s 1 0) 57) digit-ok),
+      leb-true 48 (getD s 1 0) (both (leb 48 (getD s 1 0)) (leb (getD s 1 0) 57) digit-ok .0),
+      leb-true (getD s 1 0) 57 (both (leb 48 (getD s 1 0)) (leb (getD s 1 0) 57) digit-ok .1),
     )

@@ -8,9 +8,9 @@ use native.Mathlib.Omega.{arith}
 use lib.Dec.{eqb, leb, ltb}
 use lib.ListN.{getD, length}
 use borrow.Author.Tests.{leb-true, le-leb, eqb-true, ltb-true, ltb-false}
+use Rattle.refusal.specs.Laws.{both}
 use Rattle.date.specs.Civil.{pickN}
 use Rattle.imm.specs.Imm.{mainMonth, inCycle, letters, upper, placeIn, monthOf, isDigit, isPair, isCode}
-use Rattle.imm.specs.Order.{both-0, both-1}
 
 -- the codes: the letter of month k + 1, capital or small, and the digit g
 pub data IsCode (main : Bool) : List ℕ → Type 0 where
@@ -29,7 +29,7 @@ below-go n f k false e h last rest = let q : k ≡ n = omega (arith, ltb-false k
 below : (n : ℕ) (f : ℕ → Bool) → allBelow n f ≡ true → (k : ℕ) → k < n → f k ≡ true
 unfolding allBelow
 below zero f e k h = absurd (let bad : ⊥ = omega arith in bad)
-below (suc n) f e k h = below-go n f k (ltb k n) refl h (both-0 (f n) (allBelow n f) e) (below n f (both-1 (f n) (allBelow n f) e) k)
+below (suc n) f e k h = below-go n f k (ltb k n) refl h (both (f n) (allBelow n f) e .0) (below n f (both (f n) (allBelow n f) e .1) k)
 
 pub letter-month : (k : ℕ) → k < 12 → monthOf (getD letters k 0) ≡ k + 1
 unfolding allBelow monthOf letters upper placeIn
@@ -123,12 +123,12 @@ cycle-at main a h = h
 pair-is : (main : Bool) (a d : ℕ) → isPair main a d ≡ true → IsCode main (a ∷ d ∷ [])
 unfolding isPair isDigit
 pair-is main a d e =
-    let p = both-0 (leb (monthOf a) 12 && isDigit d) (inCycle main (monthOf a)) e in
-    let m = leb-true (monthOf a) 12 (both-0 (leb (monthOf a) 12) (isDigit d) p) in
-    let g = both-1 (leb (monthOf a) 12) (isDigit d) p in
+    let p = both (leb (monthOf a) 12 && isDigit d) (inCycle main (monthOf a)) e .0 in
+    let m = leb-true (monthOf a) 12 (both (leb (monthOf a) 12) (isDigit d) p .0) in
+    let g = both (leb (monthOf a) 12) (isDigit d) p .1 in
     let l = month-letter a m in
-    pair-go main a d (placeIn (upper a) letters) (case-of a) (l .0) (l .1) (leb-true 48 d (both-0 (leb 48 d) (leb d 57) g)) (leb-true d 57 (both-1 (leb 48 d) (leb d 57) g))
-    (cycle-at main a (both-1 (leb (monthOf a) 12 && isDigit d) (inCycle main (monthOf a)) e))
+    pair-go main a d (placeIn (upper a) letters) (case-of a) (l .0) (l .1) (leb-true 48 d (both (leb 48 d) (leb d 57) g .0)) (leb-true d 57 (both (leb 48 d) (leb d 57) g .1))
+    (cycle-at main a (both (leb (monthOf a) 12 && isDigit d) (inCycle main (monthOf a)) e .1))
 
 pub passes-code : (main : Bool) (s : List ℕ) → isCode main s ≡ true → IsCode main s
 unfolding isCode
@@ -136,6 +136,6 @@ passes-code main [] e = absurd (false≢true e)
 passes-code main (a ∷ []) e = absurd (false≢true e)
 passes-code main (a ∷ d ∷ []) e = pair-is main a d e
 passes-code main (a ∷ d ∷ x ∷ xs) e =
-    let two = eqb-true (length (a ∷ d ∷ x ∷ xs)) 2 (both-0 (eqb (length (a ∷ d ∷ x ∷ xs)) 2) (isPair main a d) e) in
+    let two = eqb-true (length (a ∷ d ∷ x ∷ xs)) 2 (both (eqb (length (a ∷ d ∷ x ∷ xs)) 2) (isPair main a d) e .0) in
     let bad : ⊥ = omega arith in
     absurd bad

@@ -2,7 +2,7 @@
 -- Assumes nothing.
 use Prim.Native.Nat.{ℕ, zero, suc, _+_, _-_, _*_, _≤_, _<_}
 use mathlib.Core.Path.{_≡_, refl}
-use mathlib.Core.Bool.{Bool, true, false, false≢true, _&&_}
+use mathlib.Core.Bool.{Bool, true, false}
 use mathlib.Core.List.{List, [], _∷_}
 use native.Mathlib.Omega.{arith}
 use lib.Dec.{ltb}
@@ -22,14 +22,6 @@ pub then-gives : {A B : Type 0} (x : Answer A) (f : A → Answer B) (b : B) → 
 unfolding then
 then-gives (given a) f b h = (a, (refl, h))
 then-gives (refused n) f b h = let z : _≡_ {A = ℕ} 0 1 = cc in let bad : ⊥ = omega arith in absurd bad
-
-pub both-0 : (a b : Bool) → (a && b) ≡ true → a ≡ true
-both-0 true b e = refl
-both-0 false b e = absurd (false≢true e)
-
-pub both-1 : (a b : Bool) → (a && b) ≡ true → b ≡ true
-both-1 true b e = e
-both-1 false b e = absurd (false≢true e)
 
 -- ---- rows of month lengths
 sum-later : (xs : List ℕ) (k j : ℕ) → k < j → j ≤ length xs → sumTo xs k + getD xs k 0 ≤ sumTo xs j

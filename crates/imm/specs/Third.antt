@@ -7,7 +7,7 @@ use native.Mathlib.Omega.{arith}
 use lib.Dec.{eqb, leb}
 use borrow.Author.Tests.{le-leb, leb-true, eq-eqb, eqb-true}
 use Rattle.refusal.specs.Answer.{given, need, then}
-use Rattle.refusal.specs.Laws.{then-given}
+use Rattle.refusal.specs.Laws.{then-given, both}
 use Rattle.date.specs.Civil.{leap, rowOf, gone, sumTo, dayNumber, fieldsOf, weekdayOf, daysUntil}
 use Rattle.date.specs.Date.{makeOf, nthWeekdayOf}
 use Rattle.date.specs.Round.{Valid, fields-of-day, day-of-fields}
@@ -15,7 +15,7 @@ use Rattle.date.specs.Made.{make-ok, made}
 use Rattle.date.specs.Moves.{nth-of, until-at}
 use Rattle.imm.specs.Imm.{inCycle, isImm, thirdWednesday}
 use Rattle.date.specs.Months.{length-ge}
-use Rattle.imm.specs.Order.{then-gives, both-0, both-1}
+use Rattle.imm.specs.Order.{then-gives}
 
 -- ---- the parts of the test
 pub record Imm (main : Bool) (n : ℕ) : Type 0 where
@@ -30,13 +30,13 @@ imm-parts main n h =
     let a = eqb (weekdayOf n) 3 in
     let b = leb 15 (fieldsOf n .day) in
     let l = leb (fieldsOf n .day) 21 in
-    let p = both-0 (a && b && l) (inCycle main (fieldsOf n .month)) h in
-    let q = both-0 (a && b) l p in
+    let p = both (a && b && l) (inCycle main (fieldsOf n .month)) h .0 in
+    let q = both (a && b) l p .0 in
     record {
-      weekday = eqb-true (weekdayOf n) 3 (both-0 a b q);
-      from-15 = leb-true 15 (fieldsOf n .day) (both-1 a b q);
-      to-21 = leb-true (fieldsOf n .day) 21 (both-1 (a && b) l p);
-      cycle = both-1 (a && b && l) (inCycle main (fieldsOf n .month)) h;
+      weekday = eqb-true (weekdayOf n) 3 (both a b q .0);
+      from-15 = leb-true 15 (fieldsOf n .day) (both a b q .1);
+      to-21 = leb-true (fieldsOf n .day) 21 (both (a && b) l p .1);
+      cycle = both (a && b && l) (inCycle main (fieldsOf n .month)) h .1;
     }
 
 pub parts-imm : (main : Bool) (n : ℕ) → Imm main n → isImm main n ≡ true

@@ -8,6 +8,7 @@ use lib.Dec.{eqb}
 use lib.IntN.{ℤ, pos, negsuc}
 use lib.Signed.{ltZ}
 use borrow.Author.Tests.{eq-eqb}
+use Rattle.refusal.specs.Laws.{both}
 use Rattle.period.specs.Signed.{isNegative}
 use Rattle.date.specs.Date.{inBook}
 use Rattle.steps.specs.declared.Request.{Request}
@@ -16,10 +17,6 @@ use Rattle.steps.specs.Table.{Row, row, numberOr, firstRow, isGiven, anchorOk, 
 use Rattle.steps.specs.TableLaws as table
 use Rattle.plain.specs.Demand.{Plain, Passes, ChecksAre}
 use Rattle.plain.specs.Walked.{rule-is}
-
-both-true : (a b : Bool) → (a && b) ≡ true → (a ≡ true) × (b ≡ true)
-both-true true b e = (refl, e)
-both-true false b e = absurd (false≢true e)
 
 not-negative : (z : ℤ) → ltZ (pos 0) z ≡ true → isNegative z ≡ false
 not-negative (pos n) h = refl
@@ -39,8 +36,8 @@ module _ (q : Request) (closed : List ℕ) (dates flags : ℕ) (p : Plain q) whe
   unfolding datesOk
   passed h =
       let a = table.accepted q closed dates flags h in
-      let e = both-true (inBook (q .effective .day)) _ (a .dates-hold) in
-      let t = both-true (inBook (q .termination .day)) _ (e .1) in
+      let e = both (inBook (q .effective .day)) _ (a .dates-hold) in
+      let t = both (inBook (q .termination .day)) _ (e .1) in
       record {
         even = a .even;
         effective-in-book = e .0;

@@ -2,7 +2,7 @@
 -- Assumes nothing.
 use Prim.Native.Nat.{ℕ}
 use mathlib.Core.Path.{_≡_, refl, sym, _∙_}
-use mathlib.Core.Bool.{Bool, true, false, false≢true}
+use mathlib.Core.Bool.{Bool, true, false, false≢true, _&&_}
 use native.Mathlib.Omega.{arith}
 use Rattle.refusal.specs.Answer.{Answer, given, refused, need, then}
 
@@ -52,6 +52,11 @@ module _ {A B : Type 0} where
   pub then-refused : (x : Answer A) (n : ℕ) (f : A → Answer B) → x ≡ refused n → refused n ≡ then x f
   unfolding then
   then-refused x n f e = rw e refl
+
+-- of two tests that hold together each holds
+pub both : (a b : Bool) → (a && b) ≡ true → (a ≡ true) × (b ≡ true)
+both true b e = (refl, e)
+both false b e = absurd (false≢true e)
 
 -- what a step that gives something went through
 pub record Stepped {A B : Type 0} (x : Answer A) (f : A → Answer B) (b : B) : Type 0 where

@@ -2,30 +2,28 @@
 -- Assumes nothing.
 use Prim.Native.Nat.{ℕ, zero, suc, _+_, _*_, _-_, _≤_, _<_, _/_, _%_}
 use mathlib.Core.Path.{_≡_, refl, ap, sym, _∙_}
-use mathlib.Core.Bool.{Bool, true, false, _&&_, false≢true}
+use mathlib.Core.Bool.{Bool, true, false, _&&_}
 use mathlib.Core.List.{List, [], _∷_, _++_}
 use native.Mathlib.Nat.{div-add-mod'}
 use native.Mathlib.Omega.{arith}
-use borrow.Author.Tests.{lt-ltb, le-ltb, le-leb, eq-eqb, ne-eqb, leb-true, ltb-true}
+use borrow.Author.Tests.{lt-ltb, le-ltb, le-leb, ne-eqb, leb-true}
 use lib.Dec.{ltb, leb, eqb}
-use lib.IntN.{ℤ, pos, negsuc, subℕ}
-use lib.ListN.{length, getD, take, drop, length-append}
+use lib.IntN.{ℤ, pos, negsuc}
+use lib.ListN.{length, take, drop, length-append}
 use lib.Seq.{take-append-seam, drop-at}
-use lib.Signed.{leZ}
-use Rattle.refusal.specs.Answer.{Answer, given, refused, need, then}
-use Rattle.refusal.specs.Laws.{holds, then-given, need-given, one-given}
+use Rattle.refusal.specs.Answer.{given}
+use Rattle.refusal.specs.Laws.{holds, then-given, need-given, one-given, both}
 use Rattle.period.specs.declared.Unit.{Unit}
 use Rattle.period.specs.declared.Unit.the-variants.{Days, Weeks, Months, Years}
-use Rattle.period.specs.declared.Period.{Period}
 use Rattle.calendar.specs.declared.Convention.{Convention}
 use Rattle.calendar.specs.declared.Convention.the-variants.{Unadjusted, Following, ModifiedFollowing, Preceding, ModifiedPreceding}
 use Rattle.steps.specs.declared.Rule.{Rule}
 use Rattle.steps.specs.declared.Rule.the-variants.{Zero, Backward, Forward, Twentieth, TwentiethIMM, ThirdWednesday, ThirdWednesdayInclusive, OldCDS, CDS, CDS2015}
 use Rattle.steps.specs.declared.Request.{Request}
 use Rattle.steps.specs.Rules.{ruleNumber}
-use Rattle.request.specs.Format.{pick, two, four, signed16, isDate, isLetter, isTenor, isBelow, areDates, bodyOk, Field, Cut, sizeIn, cutAt, cutOf, lastTag, isEnd, onField, onCut, fieldsFrom, bodyOr, dateOf, unitOf, tenorOf, ruleOf, conventionOf, datesOf, requestFrom, closedFrom, Asked, askedFrom, askedIn, decoded}
+use Rattle.request.specs.Format.{pick, two, four, signed16, isDate, isLetter, isTenor, isBelow, areDates, bodyOk, Field, sizeIn, cutAt, cutOf, lastTag, isEnd, onField, onCut, fieldsFrom, bodyOr, dateOf, unitOf, tenorOf, ruleOf, conventionOf, datesOf, requestFrom, closedFrom, askedFrom, askedIn, decoded}
 use Rattle.request.specs.Picks.{taken, left}
-use Rattle.request.specs.Encode.{bytes2, bytes4, bits16, letterOf, conventionNumber, bit, tenorBody, datesIn, field, fieldsIn, headOf, spelt, written, bytesOf, fits16, sayable, encoded}
+use Rattle.request.specs.Encode.{bits16, letterOf, conventionNumber, bit, tenorBody, datesIn, field, fieldsIn, spelt, written, bytesOf, fits16, sayable, encoded}
 
 -- ---- bodies read back
 four-back : (n : ℕ) → four (n / 256 / 256 / 256) (n / 256 / 256 % 256) (n / 256 % 256) (n % 256) ≡ n
@@ -33,10 +31,6 @@ four-back n = rw (div-add-mod' (n / 256 / 256) 256, div-add-mod' (n / 256) 256, 
 
 two-back : (n : ℕ) → two (n / 256) (n % 256) ≡ n
 two-back n = div-add-mod' n 256
-
-both : (a b : Bool) → a && b ≡ true → (a ≡ true) × (b ≡ true)
-both true b h = (refl, h)
-both false b h = absurd (false≢true h)
 
 signed-back : (z : ℤ) → fits16 z ≡ true → signed16 (bits16 z) ≡ z
 unfolding fits16 signed16 bits16

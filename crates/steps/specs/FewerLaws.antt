@@ -7,6 +7,7 @@ use mathlib.Core.List.{List, [], _∷_, _++_}
 use lib.Dec.{eqb, ltb}
 use lib.ListN.{length, take}
 use borrow.Author.Tests.{eqb-true}
+use Rattle.refusal.specs.Laws.{both}
 use Rattle.refusal.specs.Answer.{Answer, given, refused, need, then, ROOM}
 use Rattle.calendar.specs.Adjust.{adjusted}
 use Rattle.calendar.specs.Stays.{adjust-again}
@@ -30,9 +31,6 @@ then-then (given a) f g = refl
 then-then (refused n) f g = refl
 
 -- ---- a request that settles
-and-true : (a b : Bool) → (a && b) ≡ true → (a ≡ true) × (b ≡ true)
-and-true true b h = (refl, h)
-and-true false b h = absurd (false≢true h)
 
 not-true : (a : Bool) → not a ≡ true → a ≡ false
 not-true true h = absurd (false≢true h)
@@ -47,9 +45,9 @@ pub record Settles (q : Request) : Type 0 where
 settles-so : (q : Request) → settles q ≡ true → Settles q
 unfolding settles
 settles-so q h =
-    let a = and-true (not (q .monthend)) (eqb (q .first .day) 0 && (eqb (q .penultimate .day) 0 && isBackward (ruleInForce q))) h in
-    let b = and-true (eqb (q .first .day) 0) (eqb (q .penultimate .day) 0 && isBackward (ruleInForce q)) (a .1) in
-    let c = and-true (eqb (q .penultimate .day) 0) (isBackward (ruleInForce q)) (b .1) in
+    let a = both (not (q .monthend)) (eqb (q .first .day) 0 && (eqb (q .penultimate .day) 0 && isBackward (ruleInForce q))) h in
+    let b = both (eqb (q .first .day) 0) (eqb (q .penultimate .day) 0 && isBackward (ruleInForce q)) (a .1) in
+    let c = both (eqb (q .penultimate .day) 0) (isBackward (ruleInForce q)) (b .1) in
     record {
       backwards = c .1;
       no-month-end = not-true (q .monthend) (a .0);

@@ -9,6 +9,7 @@ use native.Mathlib.Omega.{arith}
 use lib.Dec.{eqb}
 use lib.IntN.{natAbs}
 use borrow.Author.Tests.{eqb-true, not-false}
+use Rattle.refusal.specs.Laws.{both}
 use Rattle.period.specs.Signed.{isNegative}
 use Rattle.calendar.specs.Open.{closedOk, calendarOk}
 use Rattle.calendar.specs.Calendar.{tenorOk}
@@ -112,13 +113,9 @@ unfolding firstRow numberOr
 behind-not n true rows e = let bad : ⊥ = omega arith in absurd bad
 behind-not n false rows e = e
 
-second-true : (a b : Bool) → (a && b) ≡ true → b ≡ true
-second-true true b e = e
-second-true false b e = let z : _≡_ {A = ℕ} 0 1 = cc in let bad : ⊥ = omega arith in absurd bad
-
 pub calendar-closed : (mask : ℕ) (closed : List ℕ) → calendarOk mask closed ≡ true → closedOk closed ≡ true
 unfolding calendarOk
-calendar-closed mask closed e = second-true (not (eqb (mask % 128) 127)) (closedOk closed) e
+calendar-closed mask closed e = both (not (eqb (mask % 128) 127)) (closedOk closed) e .1
 
 pub accepted : (q : Request) (closed : List ℕ) (dates flags : ℕ) → firstRow (inputRows q closed dates flags) ≡ 0 → Accepted q closed dates flags
 unfolding inputRows
