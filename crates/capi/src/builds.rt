@@ -1,5 +1,4 @@
 // Schedules, from a request in numbers.
-ghost use mathlib.Core.Path.{_≡_};
 ghost use Rattle.request.specs.Format.{decoded};
 ghost use Rattle.report.specs.Bytes.{requestIn, closedIn};
 ghost use Rattle.crossing.specs.Requests.{requestOf};

@@ -1,6 +1,5 @@
 // Counts with a sign: they stand in the first place of a lent list, since an answer below zero is a refusal. A list with no
 // place is 14, before all else, and a refusal leaves it as it was.
-ghost use mathlib.Core.Path.{_≡_};
 ghost use Rattle.refusal.specs.Answer.{then};
 ghost use Rattle.period.specs.Period.{timesOf};
 ghost use Rattle.date.specs.Date.{differenceOf};

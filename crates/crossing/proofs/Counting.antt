@@ -1,8 +1,7 @@
 -- A count in the first place of a lent list: a law for each way.
 -- Assumes nothing.
 use Prim.Native.Nat.{ℕ, _≤_, _<_}
-use mathlib.Core.Path.{_≡_, refl, ap, sym, _∙_}
-use mathlib.Core.Bool.{true, false}
+use mathlib.Core.Path.{_≡_, ap, sym}
 use mathlib.Core.List.{List}
 use lib.Dec.{leb}
 use lib.IntN.{ℤ, pos, negℤ}
@@ -11,10 +10,10 @@ use lib.Signed.{mag}
 use mir.Syntax.{w32, w64}
 use mir.Val.{SFits, toZ, ofZ}
 use borrow.Author.Tests.{le-leb, lt-leb}
-use Rattle.refusal.specs.Answer.{Answer, given, refused, need}
+use Rattle.refusal.specs.Answer.{Answer, given, refused}
 use Rattle.refusal.specs.Laws.{fails, holds}
 use Rattle.period.specs.Signed.{same32}
-use Rattle.crossing.specs.Answers.{oneNumber, done, withPlace, placed, Placed}
+use Rattle.crossing.specs.Answers.{done, withPlace, placed, Placed}
 use Rattle.crossing.specs.Calls.{told-given, told-refused}
 
 module _ (a : Answer ℤ) (list : List ℤ) {r : ℤ} (s : mag r < 9223372036854775808) where

@@ -5,7 +5,7 @@ use mathlib.Core.Path.{_≡_, refl, ap, sym, _∙_}
 use mathlib.Core.List.{List, [], _∷_}
 use native.Mathlib.Omega.{arith}
 use lib.ListN.{length}
-use Rattle.refusal.specs.Answer.{Answer, given, refused}
+use Rattle.refusal.specs.Answer.{Answer, refused}
 use Rattle.crossing.specs.Numbers.{atPlace}
 
 pub beyond : {A : Type 0} (xs : List A) (n : ℕ) → length xs ≤ n → refused 17 ≡ atPlace xs n

@@ -1,9 +1,9 @@
 -- Worked answers, and what a caller may conclude from one.
 -- Assumes nothing.
 use Prim.Native.Nat.{ℕ, zero, suc}
-use mathlib.Core.Path.{_≡_, refl, sym, _∙_}
+use mathlib.Core.Path.{_≡_, refl}
 use mathlib.Core.List.{[], _∷_}
-use lib.IntN.{ℤ, pos, negsuc, pos-ne-negsuc}
+use lib.IntN.{pos, negsuc, pos-ne-negsuc}
 use Rattle.refusal.specs.Answer.{Answer, given, refused, need}
 use Rattle.period.specs.declared.Unit.{Unit}
 use Rattle.period.specs.declared.Unit.the-variants.{Days, Weeks, Months, Years}

@@ -3,7 +3,7 @@
 use Prim.Native.Nat.{ℕ, _+_, _-_, _*_, _/_, _%_, min}
 use mathlib.Core.Bool.{Bool, true, false, _&&_}
 use lib.Dec.{eqb, leb, ltb}
-use lib.IntN.{ℤ, pos, negsuc, natAbs, subℕ}
+use lib.IntN.{ℤ, natAbs, subℕ}
 use Rattle.refusal.specs.Answer.{Answer, given, refused, need, then, BOOK}
 use Rattle.period.specs.Signed.{isNegative}
 use Rattle.period.specs.declared.Unit.{Unit}

@@ -2,12 +2,12 @@
 -- Assumes nothing.
 use Prim.Native.Nat.{ℕ, _+_, _-_, _≤_, _<_}
 use mathlib.Core.Path.{_≡_, refl, ap, _∙_, sym}
-use mathlib.Core.Bool.{Bool, true, false}
+use mathlib.Core.Bool.{true}
 use native.Mathlib.Omega.{arith}
 use lib.Dec.{leb}
 use borrow.Author.Tests.{le-leb, lt-leb, leb-true}
-use Rattle.refusal.specs.Answer.{Answer, given, refused, need, then, BOOK}
-use Rattle.refusal.specs.Laws.{fails, after, holds, need-given}
+use Rattle.refusal.specs.Answer.{Answer, given, refused, need, BOOK}
+use Rattle.refusal.specs.Laws.{fails, after, need-given}
 use Rattle.date.specs.declared.Date.{Date}
 use Rattle.date.specs.declared.Dated.{Dated}
 use Rattle.date.specs.declared.Dated.the-variants.{Day, Refused}

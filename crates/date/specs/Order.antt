@@ -8,13 +8,12 @@ use native.Mathlib.Nat.{add-sub-cancel}
 use lib.Dec.{ltb}
 use lib.ListN.{getD}
 use borrow.Author.Tests.{ltb-true, ltb-false}
-use Rattle.refusal.specs.Answer.{Answer, given}
-use Rattle.date.specs.declared.Fields.{Fields}
-use Rattle.date.specs.Civil.{gone, sumTo, rowOf, leap, pickN, dayNumber, monthLength, fieldsOf, fieldsAt}
-use Rattle.date.specs.Date.{makeOf, inMonth, monthIndex, shiftMonths, step}
+use Rattle.refusal.specs.Answer.{given}
+use Rattle.date.specs.Civil.{gone, sumTo, rowOf, leap, pickN, dayNumber, monthLength, fieldsOf}
+use Rattle.date.specs.Date.{inMonth, monthIndex, shiftMonths, step}
 use Rattle.date.specs.Months.{sum-more, sum-none, sum-eleven}
 use Rattle.date.specs.Round.{Valid, fields-of-day}
-use Rattle.date.specs.Made.{Made, made, year-end}
+use Rattle.date.specs.Made.{made, year-end}
 
 -- the days before month t, counted as 12 * year + month - 1
 start : ℕ → ℕ

@@ -1,14 +1,14 @@
 -- A day number and its year, month and day determine each other.
 -- Assumes nothing.
 use Prim.Native.Nat.{ℕ, _+_, _-_, _≤_, _<_}
-use mathlib.Core.Path.{_≡_, refl, ap, _∙_, sym}
+use mathlib.Core.Path.{_≡_, ap, _∙_, sym}
 use native.Mathlib.Omega.{arith}
 use native.Mathlib.Nat.{add-sub-cancel}
 use lib.ListN.{getD, length}
 use Rattle.date.specs.declared.Fields.{Fields}
 use Rattle.date.specs.declared.civil.Place.{Place}
 use Rattle.date.specs.Civil.{pickN, leap, rowOf, gone, yearsGone, sumTo, placeOf, fieldsAt, fieldsOf, dayNumber, monthLength}
-use Rattle.date.specs.Years.{gone-suc, years-low, years-high, years-only, in-year}
+use Rattle.date.specs.Years.{gone-suc, years-low, years-only, in-year}
 use Rattle.date.specs.Months.{place-ok, place-at, place-small, row-length, year-sum, sum-in}
 
 -- the year, month and day exist

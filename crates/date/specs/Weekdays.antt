@@ -5,8 +5,8 @@ use mathlib.Core.Path.{_≡_, refl, ap, _∙_, sym}
 use mathlib.Core.Bool.{Bool, true, false}
 use native.Mathlib.Omega.{arith}
 use lib.Dec.{leb, eqb}
-use borrow.Author.Tests.{leb-true, eqb-true, eqb-false, eq-eqb}
-use Rattle.refusal.specs.Answer.{Answer, given, refused, need, then, BOOK}
+use borrow.Author.Tests.{leb-true, eqb-true, eqb-false}
+use Rattle.refusal.specs.Answer.{given, need, then, BOOK}
 use Rattle.refusal.specs.Laws.{need-given, then-stepped, then-given}
 use Rattle.date.specs.Civil.{pickN, weekdayOf, daysUntil, dayNumber, monthLength}
 use Rattle.date.specs.Date.{inBook, makeOf, withinSpan, nextWeekdayOf, nthWeekdayOf}

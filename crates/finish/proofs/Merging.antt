@@ -1,18 +1,17 @@
 -- A law for each way through the two merges.
 -- Assumes nothing.
-use mathlib.Core.Path.{_≡_, refl, ap, sym, _∙_}
+use mathlib.Core.Path.{_≡_, refl, ap, _∙_}
 use mathlib.Core.Bool.{Bool, true, false, _&&_}
-use mathlib.Core.List.{List, [], _∷_}
-use Prim.Native.Nat.{ℕ, suc, _+_, _-_, _≤_, _<_}
+use mathlib.Core.List.{List}
+use Prim.Native.Nat.{ℕ, _+_, _-_, _≤_, _<_}
 use native.Mathlib.Omega.{arith}
-use lib.ListN.{length, getD, take, drop, set, length-set}
+use lib.ListN.{length, getD, take, set}
 use lib.Seq.{take-all, take-length}
-use lib.Dec.{leb, eqb}
+use lib.Dec.{leb}
 use borrow.Author.Tests.{le-leb, lt-leb}
 use borrow.Author.Needs.{needs}
-use Rattle.refusal.specs.Answer.{Answer, given, refused, COLLAPSED}
+use Rattle.refusal.specs.Answer.{COLLAPSED}
 use Rattle.refusal.specs.Laws.{fails, holds}
-use Rattle.date.specs.Civil.{pickN}
 use Rattle.steps.specs.Finish.{Merged, mergeEnd, mergeEndIf, meetAtEnd, mergeFront, mergeFrontIf, meetAtFront, sameFlag}
 use Rattle.finish.specs.declared.merges.Start.the-variants.{At, Refused}
 use Rattle.finish.specs.Ends.{EndMerged, leftFrom, Short, FrontMerged}

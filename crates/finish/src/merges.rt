@@ -1,6 +1,6 @@
 // The two merges that end a build, on the part of the working lists that holds the schedule.
 ghost use mathlib.Core.Path.{_≡_};
-ghost use Prim.Native.Nat.{_+_, _≤_};
+ghost use Prim.Native.Nat.{_+_};
 ghost use lib.ListN.{length};
 ghost use Rattle.finish.specs.Ends.{EndMerged, FrontMerged};
 use working::lists::same_flag;

@@ -1,6 +1,6 @@
 // Codes of IMM dates: the month's letter, then the last digit of the year.
 ghost use mathlib.Core.Path.{_≡_};
-ghost use Prim.Native.Nat.{_≤_, _<_};
+ghost use Prim.Native.Nat.{_<_};
 ghost use Rattle.imm.specs.Imm.{coded, mainMonth, inCycle, upper, monthOf, isDigit, isPair, codeOf, codeAfter};
 ghost use Rattle.date.specs.Date.{dated};
 use date::Dated;

@@ -1,18 +1,16 @@
 -- The tests of `times`, in the code's terms.
 -- Assumes nothing.
-use Prim.Native.Nat.{ℕ}
-use mathlib.Core.Path.{_≡_, refl, sym, _∙_}
-use mathlib.Core.Bool.{Bool, true, false, false≢true}
+use mathlib.Core.Path.{_≡_, refl}
+use mathlib.Core.Bool.{true, false, false≢true}
 use native.Mathlib.Omega.{arith}
 use lib.IntN.{ℤ, pos, negsuc, _*ℤ_}
 use lib.Signed.{ltZ}
 use mir.Syntax.{w32}
 use mir.Val.{SFits}
-use borrow.Author.Tests.{ltb-true, ltb-false, le-leb, lt-leb, le-ltb}
-use Rattle.refusal.specs.Answer.{Answer, given, refused}
+use borrow.Author.Tests.{ltb-true, ltb-false, le-leb, lt-leb}
+use Rattle.refusal.specs.Answer.{given, refused}
 use Rattle.refusal.specs.Laws.{fails, holds}
 use Rattle.period.specs.declared.Unit.{Unit}
-use Rattle.period.specs.declared.Period.{Period}
 use Rattle.period.specs.Period.{fits32, timesOf}
 
 below : (z : ℤ) → ltZ z (negsuc 2147483647) ≡ true → fits32 z ≡ false

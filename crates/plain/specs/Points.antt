@@ -22,13 +22,11 @@ use lib.IntN.{pos}
 use Rattle.imm.specs.Imm.{isImm, inCycle, mainMonth}
 use Rattle.period.specs.declared.Unit.{Unit}
 use Rattle.period.specs.declared.Unit.the-variants.{Days, Months, Weeks, Years}
-use Rattle.period.specs.declared.Period.{Period}
 use Rattle.calendar.specs.declared.Convention.{Convention}
 use Rattle.calendar.specs.declared.Convention.the-variants.{Following, ModifiedFollowing, Preceding, Unadjusted}
 use Rattle.steps.specs.declared.Rule.{Rule}
 use Rattle.steps.specs.declared.Rule.the-variants.{Backward, CDS, Forward, OldCDS, ThirdWednesday, ThirdWednesdayInclusive, Zero}
 use Rattle.steps.specs.declared.Request.{Request}
-use Rattle.steps.specs.declared.Built.{Built}
 
 -- a date of 2025
 abbrev on : ℕ → ℕ → ℕ

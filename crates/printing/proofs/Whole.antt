@@ -1,16 +1,16 @@
 -- The whole texts: their lengths, and how they are put.
 -- Assumes nothing.
-use Prim.Native.Nat.{ℕ, suc, _+_, _-_, _*_, _≤_, _<_}
-use mathlib.Core.Path.{_≡_, refl, ap, sym, _∙_}
+use Prim.Native.Nat.{ℕ, _+_, _-_, _*_, _≤_, _<_}
+use mathlib.Core.Path.{_≡_, refl, sym, _∙_}
 use mathlib.Core.Bool.{Bool, true, false}
 use mathlib.Core.List.{List, [], _∷_, _++_}
 use native.Mathlib.Omega.{arith}
 use lib.Dec.{leb}
-use lib.ListN.{length, take, drop, getD, length-drop, length-append}
+use lib.ListN.{length, take, drop, getD, length-drop}
 use lib.Seq.{take-all}
 use borrow.Author.Needs.{needs}
 use borrow.Author.Tests.{le-leb, lt-leb, leb-true, leb-false}
-use Rattle.printing.specs.Text.{decimal, dateText, firstLine, laterLine, laterLines, lines, header, scheduleText, refusalText, mark, DATES, TRIES, REFUSED, LINE}
+use Rattle.printing.specs.Text.{decimal, firstLine, laterLine, laterLines, lines, header, scheduleText, refusalText, DATES, TRIES, REFUSED, LINE}
 use Rattle.printing.specs.Put.{Put, Spelled, fitting}
 use Rattle.printing.specs.Lengths.{first-length, header-length, refusal-length, schedule-length}
 use Rattle.printing.proofs.Putting.{put-none, put-then}

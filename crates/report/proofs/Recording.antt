@@ -12,7 +12,7 @@ use lib.Dec.{eqb, leb}
 use lib.IntN.{ℤ, pos, negℤ, natAbs}
 use lib.ListN.{length, set, length-set}
 use borrow.Author.Tests.{eq-eqb, ne-eqb, le-leb, lt-leb}
-use Rattle.refusal.specs.Answer.{Answer, given, refused, need, then}
+use Rattle.refusal.specs.Answer.{Answer, given, refused, then}
 use Rattle.refusal.specs.Laws.{fails, holds, then-given, then-refused}
 use Rattle.steps.specs.declared.Request.{Request}
 use Rattle.steps.specs.declared.Built.{Built}

@@ -3,10 +3,10 @@
 use Prim.Native.Nat.{ℕ, zero, suc, _+_, _*_, _-_, _/_, _%_, _≤_, _<_}
 use mathlib.Core.Path.{_≡_, refl, sym, ap, _∙_}
 use mathlib.Core.Bool.{Bool, true, false, _&&_}
-use mathlib.Core.List.{List, [], _∷_}
+use mathlib.Core.List.{List, []}
 use native.Mathlib.Omega.{arith}
 use borrow.Author.Needs.{needs}
-use borrow.Author.Tests.{eq-eqb, ne-eqb, eqb-true, eqb-false, le-leb, lt-leb}
+use borrow.Author.Tests.{eq-eqb, eqb-true, eqb-false, le-leb, lt-leb}
 use lib.Dec.{eqb, leb}
 use lib.ListN.{length, getD, take, drop, replicate}
 use Rattle.refusal.specs.Answer.{Answer, given, refused, need, then}
@@ -15,7 +15,7 @@ use Rattle.steps.specs.declared.Request.{Request}
 use Rattle.steps.specs.Build.{over}
 use Rattle.request.specs.declared.Decoded.{Decoded}
 use Rattle.request.specs.declared.Decoded.the-variants as decoded-is
-use Rattle.request.specs.Format.{pick, isDate, bodyOk, areDates, datesOf, bodyOr, requestFrom, closedFrom, Asked, askedFrom, askedIn, fieldsFrom, decoded}
+use Rattle.request.specs.Format.{pick, isDate, bodyOk, datesOf, requestFrom, closedFrom, Asked, askedFrom, askedIn, fieldsFrom, decoded}
 use Rattle.request.specs.Places.{twoAt, bodyAt, placed, datesAt, Sized, Lies, Kept, Found, reads, Blank}
 use Rattle.request.specs.Decode.{answered, closedAfter, Decodes}
 use Rattle.request.proofs.AskWays.{left-out-body, body-there, long-there, kept-1, kept-2, by-fours}

@@ -1,6 +1,6 @@
 -- Laws of what the fields ask for: one for each way through the code.
 -- Assumes nothing.
-use Prim.Native.Nat.{ℕ, zero, suc, _+_, _*_, _-_, _/_, _%_, _≤_, _<_}
+use Prim.Native.Nat.{ℕ, zero, _+_, _-_, _/_, _%_, _≤_, _<_}
 use mathlib.Core.Path.{_≡_, refl, sym, ap, _∙_}
 use mathlib.Core.Bool.{Bool, true, false, _&&_, false≢true}
 use mathlib.Core.List.{List, [], _∷_}
@@ -8,7 +8,7 @@ use native.Mathlib.Nat.{add-zero}
 use native.Mathlib.Omega.{arith}
 use borrow.Author.Needs.{needs}
 use borrow.Author.Tests.{eq-eqb, ne-eqb, eqb-true}
-use lib.Dec.{eqb, leb, ltb}
+use lib.Dec.{eqb, leb}
 use lib.IntN.{ℤ, pos}
 use lib.ListN.{length, getD, take, drop, length-drop}
 use lib.Seq.{getD-take, getD-drop, length-take-le}
@@ -21,7 +21,6 @@ use Rattle.period.specs.declared.Period.{Period}
 use Rattle.date.specs.declared.Date.{Date}
 use Rattle.calendar.specs.declared.Convention.{Convention}
 use Rattle.steps.specs.declared.Rule.{Rule}
-use Rattle.steps.specs.declared.Request.{Request}
 use Rattle.request.specs.Format.{pick, two, four, signed16, isDate, isTenor, isBelow, areDates, bodyOk, byteOf, dateOf, unitOf, tenorOf, ruleOf, conventionOf, requestFrom}
 use Rattle.request.specs.Picks.{taken, left}
 use Rattle.request.specs.Places.{twoAt, Pair, bodyAt, Sized, Lies, Kept}

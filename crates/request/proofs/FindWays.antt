@@ -10,12 +10,12 @@ use borrow.Author.Tests.{eq-eqb, ne-eqb, eqb-true, eqb-false}
 use lib.Dec.{eqb}
 use lib.ListN.{length, getD, take, drop, set, length-set}
 use lib.Seq.{getD-set-same, getD-set-other}
-use Rattle.refusal.specs.Answer.{Answer, given, refused, then}
+use Rattle.refusal.specs.Answer.{then}
 use Rattle.request.specs.declared.fields.Step.{Step}
 use Rattle.request.specs.declared.fields.Step.the-variants.{Broken, End, Next}
-use Rattle.request.specs.Format.{pick, bodyOk, Field, lastTag, cutOf, onCut, fieldsFrom, bodyOr}
+use Rattle.request.specs.Format.{Field, lastTag, cutOf, onCut, fieldsFrom, bodyOr}
 use Rattle.request.specs.Picks.{taken, left}
-use Rattle.request.specs.Places.{twoAt, bodyAt, placed, Sized, Lies, Kept, Framed, stepped, framed, Steps, Found, reads, Blank}
+use Rattle.request.specs.Places.{twoAt, bodyAt, placed, Lies, Kept, Framed, stepped, framed, Steps, reads, Blank}
 
 pub record Reached (bytes places : List ℕ) (at last : ℕ) : Type 0 where
   pub fields : List Field

@@ -12,7 +12,7 @@ use mir.Syntax.{w32}
 use mir.Val.{SFits, toZ, ofZ}
 use mir.Facts.{toZ-ofZ}
 use mir.ValLaws.{toZ-pos}
-use Rattle.request.specs.Format.{pick, signed16}
+use Rattle.request.specs.Format.{signed16}
 use Rattle.request.specs.Picks.{taken, left}
 
 pos-sub : (a b : ℕ) → pos a -ℤ pos b ≡ subℕ a b

@@ -1,6 +1,6 @@
 -- Laws of one step of the reading: one for each way through the code.
 -- Assumes nothing.
-use Prim.Native.Nat.{ℕ, zero, suc, _+_, _*_, _-_, _≤_, _<_}
+use Prim.Native.Nat.{ℕ, zero, suc, _+_, _-_, _≤_, _<_}
 use mathlib.Core.Path.{_≡_, refl, sym, ap, _∙_}
 use mathlib.Core.Bool.{Bool, true, false, _&&_, false≢true}
 use mathlib.Core.List.{List, _∷_}
@@ -15,9 +15,9 @@ use Rattle.refusal.specs.Answer.{Answer, given, refused, need, then}
 use Rattle.refusal.specs.Laws.{fails, holds, then-given, then-refused}
 use Rattle.request.specs.declared.fields.Step.{Step}
 use Rattle.request.specs.declared.fields.Step.the-variants.{Broken, End, Next}
-use Rattle.request.specs.Format.{pick, two, bodyOk, Field, Cut, sizeIn, cutAt, cutOf, lastTag, isEnd, onField, onCut}
+use Rattle.request.specs.Format.{two, bodyOk, Field, Cut, sizeIn, cutAt, cutOf, lastTag, isEnd, onField, onCut}
 use Rattle.request.proofs.BodyWays.{body-none}
-use Rattle.request.specs.Places.{twoAt, Pair, Sized, Framed, stepped, framed, Steps}
+use Rattle.request.specs.Places.{twoAt, Pair, stepped, framed, Steps}
 
 -- no tag from 12 on has a body
 none-from : (tag : ℕ) (s : List ℕ) → 12 ≤ tag → false ≡ bodyOk tag s

@@ -6,7 +6,7 @@ use mathlib.Core.Bool.{true, false}
 use mathlib.Core.List.{List, [], _∷_, _++_, map}
 use lib.ListN.{length}
 use lib.IntN.{ℤ, pos, negsuc}
-use Rattle.refusal.specs.Answer.{Answer, given, refused, number, need, then}
+use Rattle.refusal.specs.Answer.{given, refused, number, need, then}
 use Rattle.period.specs.declared.Unit.{Unit}
 use Rattle.period.specs.declared.Unit.the-variants.{Days, Months, Weeks}
 use Rattle.calendar.specs.declared.Convention.the-variants.{Unadjusted, Preceding, ModifiedPreceding}

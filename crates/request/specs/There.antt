@@ -2,14 +2,13 @@
 -- Assumes nothing.
 use Prim.Native.Nat.{ℕ, _≤_}
 use mathlib.Core.Path.{_≡_, refl, sym, ap, _∙_}
-use mathlib.Core.List.{List, _++_}
+use mathlib.Core.List.{List}
 use native.Mathlib.Omega.{arith}
 use lib.ListN.{length, take, drop}
 use lib.Seq.{take-at}
 use Rattle.refusal.specs.Answer.{Answer, given, refused}
 use Rattle.steps.specs.declared.Request.{Request}
 use Rattle.steps.specs.Build.{over}
-use Rattle.request.specs.declared.Encoded.{Encoded}
 use Rattle.request.specs.declared.Encoded.the-variants as encoded-is
 use Rattle.request.specs.declared.Decoded.{Decoded}
 use Rattle.request.specs.declared.Decoded.the-variants as decoded-is

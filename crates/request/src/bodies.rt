@@ -1,7 +1,6 @@
 // What a field's body may be, and what its letters and bytes stand for.
 ghost use mathlib.Core.Path.{_≡_};
-ghost use lib.ListN.{length};
-ghost use Rattle.request.specs.Format.{isLetter, isTenor, isBelow, areDates, bodyOk, unitOf, ruleOf, conventionOf};
+ghost use Rattle.request.specs.Format.{isLetter, isTenor, isBelow, bodyOk, unitOf, ruleOf, conventionOf};
 use calendar::Convention;
 use period::Unit;
 use steps::Rule;

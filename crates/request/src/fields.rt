@@ -1,5 +1,4 @@
 // The fields of a request: each a tag, a two-byte length and a body, up to FF.
-ghost use mathlib.Core.Path.{_≡_};
 ghost use Prim.Native.Nat.{_≤_};
 ghost use lib.ListN.{length};
 ghost use Rattle.request.specs.Places.{Steps, Blank, reads};

@@ -1,7 +1,5 @@
 // Requests as bytes: tagged fields, each framed by its length.
-ghost use mathlib.Core.Path.{_≡_};
-ghost use Prim.Native.Nat.{_≤_};
-ghost use lib.ListN.{length, getD};
+ghost use lib.ListN.{length};
 ghost use Rattle.request.specs.Format.{askedFrom, decoded};
 ghost use Rattle.request.specs.Places.{Kept, placed, Blank};
 ghost use Rattle.request.specs.Decode.{Decodes};

@@ -2,7 +2,7 @@
 -- Assumes nothing.
 use Prim.Native.Nat.{ℕ, zero, suc, min}
 use mathlib.Core.Path.{_≡_}
-use mathlib.Core.List.{List, [], _∷_, _++_}
+use mathlib.Core.List.{List, _++_}
 use lib.IntN.{pos}
 use lib.ListN.{length, drop}
 use Rattle.refusal.specs.Answer.{Answer, given, refused, then}

@@ -4,7 +4,7 @@ use Prim.Native.Nat.{ℕ, _*_}
 use mathlib.Core.Bool.{Bool, true, false, _&&_}
 use mathlib.Core.List.{List}
 use lib.Dec.{eqb, ltb}
-use Rattle.refusal.specs.Answer.{Answer, given, refused, then}
+use Rattle.refusal.specs.Answer.{Answer, given, then}
 use Rattle.date.specs.Civil.{fieldsOf, monthLength, pickN}
 use Rattle.date.specs.Date.{monthIndex, withinSpan, inMonth, step}
 use Rattle.calendar.specs.declared.Convention.{Convention}

@@ -3,7 +3,7 @@
 use Prim.Native.Nat.{ℕ, _-_, _%_}
 use mathlib.Core.Bool.{Bool, true, false}
 use lib.Dec.{ltb}
-use Rattle.refusal.specs.Answer.{Answer, given, refused, need, then, BOOK}
+use Rattle.refusal.specs.Answer.{Answer, given, need, then, BOOK}
 use Rattle.date.specs.Civil.{fieldsOf}
 use Rattle.date.specs.Date.{inBook, makeOf, shiftMonths}
 use Rattle.steps.specs.declared.Rule.{Rule}

@@ -6,7 +6,7 @@ ghost use Rattle.date.specs.Date.{monthIndex};
 ghost use Rattle.calendar.specs.Open.{closedOk};
 ghost use Rattle.calendar.specs.Calendar.{decided};
 ghost use Rattle.steps.specs.Candidates.{lastDay, seedOf};
-ghost use Rattle.steps.specs.Finish.{seedAsked, seedAtEnd};
+ghost use Rattle.steps.specs.Finish.{seedAtEnd};
 use crate::Seed;
 use calendar::Decided;
 use calendar::search;

@@ -1,5 +1,4 @@
 // The loop over the candidates.
-ghost use mathlib.Core.Path.{_≡_};
 ghost use Rattle.steps.specs.Fewer.{turnKept};
 ghost use Rattle.steps.specs.Generate.{walk};
 ghost use Rattle.working.specs.Part.{Begun, held};
