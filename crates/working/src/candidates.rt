@@ -11,7 +11,6 @@ ghost use Rattle.working.specs.Turning.{Front, Compared};
 ghost use Rattle.working.specs.Paces.{pace};
 use calendar::Convention;
 use calendar::search;
-use date::Date;
 use date::Dated;
 use date::span;
 use period::Period;
@@ -83,25 +82,8 @@ fn is_past(back: bool, exit: u32, day: u32) -> bool
     if back { day < exit } else { exit < day }
 }
 
-// The newest date adjusted: `front`, or a search where that is not known yet.
-pub(crate) fn front_of(
-    front: u32,
-    newest: u32,
-    convention: Convention,
-    mask: u8,
-    closed: &[u32],
-) -> Dated
-    ensures { λ r. ⌜ (closedOk (now (closed .entry)) ≡ true → Front mask (now (closed .entry)) convention front newest → dated r ≡ adjusted mask (now (closed .entry)) convention newest) ⌝ }
-{
-    if front == 0 {
-        search::adjust(newest, convention, mask, closed)
-    } else {
-        Dated::Day(Date { day: front })
-    }
-}
-
 // What a candidate does that is not past the exit date; a settled build keeps it as adjusted. The known adjusted date is taken as
-// it is, and not by `front_of`, whose answer would go through memory for each candidate.
+// it is, and not by a call like `front_of`, whose answer would go through memory for each candidate.
 fn compare(
     settled: bool,
     day: u32,

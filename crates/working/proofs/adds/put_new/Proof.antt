@@ -8,7 +8,7 @@ use Rattle.working.proofs.adds.put_new.Reads as reads
 use Rattle.working.proofs.adds.put_new.Lts as lts
 use Rattle.calendar.proofs.search.adjust.Reads as adjust-reads
 use Rattle.working.proofs.adds.put_front.Reads as put-front-reads
-use Rattle.working.proofs.candidates.front_of.Reads as front-of-reads
+use Rattle.working.proofs.adds.front_of.Reads as front-of-reads
 use Rattle.working.proofs.lists.newest.Reads as newest-reads
 
 newest-requires : tie.Need-newest-requires

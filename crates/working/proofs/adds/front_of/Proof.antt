@@ -1,12 +1,12 @@
--- `working::candidates::front_of` meets its contract.
+-- `working::adds::front_of` meets its contract.
 -- Assumes nothing.
 use Rattle.date.specs.Date.{dated}
 use Rattle.working.proofs.Turns.{front-known}
 use borrow.Author.Needs.{needs}
-use Rattle.working.proofs.candidates.front_of.Statement.{statement}
-use Rattle.working.proofs.candidates.front_of.Tie as tie
-use Rattle.working.proofs.candidates.front_of.Reads as reads
-use Rattle.working.proofs.candidates.front_of.Lts as lts
+use Rattle.working.proofs.adds.front_of.Statement.{statement}
+use Rattle.working.proofs.adds.front_of.Tie as tie
+use Rattle.working.proofs.adds.front_of.Reads as reads
+use Rattle.working.proofs.adds.front_of.Lts as lts
 use Rattle.calendar.proofs.search.adjust.Reads as adjust-reads
 
 adjust-requires : tie.Need-adjust-requires
