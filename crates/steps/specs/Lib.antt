@@ -11,3 +11,4 @@ pub mod Fewer
 pub mod Parts
 pub mod Met
 pub mod FewerLaws
+pub mod Counts
