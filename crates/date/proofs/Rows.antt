@@ -1,4 +1,4 @@
--- The byte of a flag picks a row of a table.
+-- The bounds of a flag's byte, which picks a row of a table or counts a leap day.
 -- Assumes nothing.
 use Prim.Native.Nat.{ℕ, _*_, _≤_, _<_}
 use mathlib.Core.Bool.{Bool, true, false}

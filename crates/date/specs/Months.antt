@@ -7,9 +7,10 @@ use mathlib.Core.List.{List, [], _∷_}
 use native.Mathlib.Omega.{arith}
 use native.Mathlib.Numerals.{add-one}
 use native.Mathlib.Nat.{zero-add}
-use lib.Dec.{leb, ltb}
+use lib.Dec.{eqb, leb, ltb}
 use lib.ListN.{getD, length}
-use borrow.Author.Tests.{lt-ltb, le-ltb, leb-true, ltb-true, ltb-false}
+use mir.Val.{boolByte}
+use borrow.Author.Tests.{lt-ltb, le-ltb, eqb-true, leb-true, ltb-true, ltb-false}
 use Rattle.refusal.specs.Laws.{both}
 use Rattle.date.specs.Civil.{pickN, leap, rowOf, monthLength, sumTo, monthIn, dayIn, placeOf}
 use Rattle.date.specs.declared.civil.Place.{Place}
@@ -161,38 +162,43 @@ sum-le false k = sum-le-at (rowOf false) refl k
 pub sum-small : (l : Bool) (k : ℕ) → k < 12 → sumTo (rowOf l) k ≤ 341
 sum-small l k h = omega (arith, sum-le l k)
 
--- the sums before each entry of a row, as a list
-unfoldable pub sums : ℕ → List ℕ → List ℕ
-sums a [] = []
-sums a (x ∷ xs) = a ∷ sums (a + x) xs
+-- ---- a rule that holds at each number below a bound, computed
+allBelow : ℕ → (ℕ → Bool) → Bool
+allBelow zero f = true
+allBelow (suc n) f = f n && allBelow n f
 
-pub sums-at : (a : ℕ) (xs : List ℕ) (m : ℕ) → m < length xs → getD (sums a xs) m 0 ≡ a + sumTo xs m
-unfolding sums sumTo
-sums-at a [] m h = omega arith
-sums-at a (x ∷ xs) zero h = omega arith
-sums-at a (x ∷ xs) (suc m) h = omega (arith, sums-at (a + x) xs m (omega arith))
+below-go : (n : ℕ) (f : ℕ → Bool) (k : ℕ) (t : Bool) → ltb k n ≡ t → k < suc n → f n ≡ true → (k < n → f k ≡ true) → f k ≡ true
+below-go n f k true e h last rest = rest (ltb-true k n e)
+below-go n f k false e h last rest = let q : k ≡ n = omega (arith, ltb-false k n e) in rw q last
+
+below : (n : ℕ) (f : ℕ → Bool) → allBelow n f ≡ true → (k : ℕ) → k < n → f k ≡ true
+unfolding allBelow
+below zero f t k h = absurd (let bad : ⊥ = omega arith in bad)
+below (suc n) f t k h =
+    below-go n f k (ltb k n) refl h (both (f n) (allBelow n f) t .0) (below n f (both (f n) (allBelow n f) t .1) k)
+
+-- ---- the days before a month: by the rule for months of 30 and 31 days, less what February falls short of 30
+ruled : Bool → ℕ → ℕ
+ruled l m = pickN (ltb m 2) ((367 * m + 5) / 12) ((367 * m + 5) / 12 + boolByte l - 2)
+
+ruled-sum : (l : Bool) (m : ℕ) → m < 12 → ruled l m ≡ sumTo (rowOf l) m
+unfolding allBelow ruled sumTo rowOf
+ruled-sum true m h = eqb-true _ _ (below 12 (λ k. eqb (ruled true k) (sumTo (rowOf true) k)) refl m h)
+ruled-sum false m h = eqb-true _ _ (below 12 (λ k. eqb (ruled false k) (sumTo (rowOf false) k)) refl m h)
+
+pub sum-early : (l : Bool) (m : ℕ) → m < 2 → (367 * m + 5) / 12 ≡ sumTo (rowOf l) m
+unfolding ruled
+sum-early l m h = rw (lt-ltb m 2 h) at (ruled-sum l m (omega arith))
+
+pub sum-late : (l : Bool) (m : ℕ) → 2 ≤ m → m < 12 → (367 * m + 5) / 12 + boolByte l - 2 ≡ sumTo (rowOf l) m
+unfolding ruled
+sum-late l m h i = rw (le-ltb m 2 h) at (ruled-sum l m i)
 
 -- ---- the month of a day of the year: 32 goes into the day as often as there are months before it, or once less
-allNear : Bool → ℕ → Bool
-allNear l zero = true
-allNear l (suc g) = ltb (32 * g + 31) (sumTo (rowOf l) (g + 2)) && allNear l g
-
-near-go : (l : Bool) (n g : ℕ) (b : Bool) → ltb g n ≡ b → g ≤ n → 32 * n + 31 < sumTo (rowOf l) (n + 2) → (g < n → 32 * g + 31 < sumTo (rowOf l) (g + 2)) → 32 * g + 31 < sumTo (rowOf l) (g + 2)
-near-go l n g true e h here below = below (ltb-true g n e)
-near-go l n g false e h here below = let q : g ≡ n = omega (arith, ltb-false g n e) in rw q here
-
-near-at : (l : Bool) (n g : ℕ) → allNear l n ≡ true → g < n → 32 * g + 31 < sumTo (rowOf l) (g + 2)
-unfolding allNear
-near-at l zero g t h = omega arith
-near-at l (suc n) g t h =
-    near-go l n g (ltb g n) refl (omega arith)
-    (ltb-true _ _ (both (ltb (32 * n + 31) (sumTo (rowOf l) (n + 2))) (allNear l n) t .0))
-    (near-at l n g (both (ltb (32 * n + 31) (sumTo (rowOf l) (n + 2))) (allNear l n) t .1))
-
 near : (l : Bool) (g : ℕ) → g < 11 → 32 * g + 31 < sumTo (rowOf l) (g + 2)
-unfolding allNear sumTo rowOf
-near true g h = near-at true 11 g refl h
-near false g h = near-at false 11 g refl h
+unfolding allBelow sumTo rowOf
+near true g h = ltb-true _ _ (below 11 (λ k. ltb (32 * k + 31) (sumTo (rowOf true) (k + 2))) refl g h)
+near false g h = ltb-true _ _ (below 11 (λ k. ltb (32 * k + 31) (sumTo (rowOf false) (k + 2))) refl g h)
 
 month-by : (l : Bool) (j m : ℕ) → m < 12 → sumTo (rowOf l) m ≤ j → j < sumTo (rowOf l) (m + 1) → m ≡ monthIn (rowOf l) j
 month-by l j m h a b =

@@ -11,12 +11,6 @@ const MONTHS: [[u8; 12]; 2] = [
     [31, 29, 31, 30, 31, 30, 31, 31, 30, 31, 30, 31],
 ];
 
-// The days before each month, in a common year and in a leap year.
-const BEFORE: [[u16; 12]; 2] = [
-    [0, 31, 59, 90, 120, 151, 181, 212, 243, 273, 304, 334],
-    [0, 31, 60, 91, 121, 152, 182, 213, 244, 274, 305, 335],
-];
-
 // A month and a day of it, both from 0.
 pub struct Place {
     pub month: u32,
@@ -68,13 +62,16 @@ fn years_gone(z: u64) -> u64
     if days_gone(g + 1) <= z { g + 1 } else { g }
 }
 
-// The days of the first m months.
-fn days_before(leaps: bool, m: usize) -> u32
+// The days of the first m months: by the rule for months of 30 and 31 days, less what February falls short of 30.
+fn days_before(leaps: bool, m: u32) -> u32
     requires { ⌜ m < 12 ⌝ }
     ensures { λ r. ⌜ r ≡ sumTo (rowOf leaps) m ⌝ }
 {
-    let row = leaps as usize;
-    BEFORE[row][m] as u32
+    let starts = (367 * m + 5) / 12;
+    if m < 2 {
+        return starts;
+    }
+    starts + leaps as u32 - 2
 }
 
 // The month, from 0, of a day of the year, from 0. Months have at most 31 days and few have less, so that 32 goes into the day as
@@ -85,7 +82,7 @@ fn month_in(leaps: bool, j: u32) -> u32
 {
     let g = j / 32;
     if g < 11 {
-        if days_before(leaps, (g + 1) as usize) <= j {
+        if days_before(leaps, g + 1) <= j {
             return g + 1;
         }
     }
@@ -100,7 +97,7 @@ fn place_in(leaps: bool, j: u32) -> Place
     let m = month_in(leaps, j);
     Place {
         month: m,
-        day: j - days_before(leaps, m as usize),
+        day: j - days_before(leaps, m),
     }
 }
 
@@ -135,7 +132,7 @@ pub(crate) fn day_number(year: u32, month: u32, day: u32) -> u32
     requires { ⌜ (1 ≤ year) × (year < 2400) × (1 ≤ month) × (month ≤ 12) × (day ≤ 31) ⌝ }
     ensures { λ r. ⌜ r ≡ dayNumber year month day ⌝ }
 {
-    days_gone((year - 1) as u64) as u32 + days_before(is_leap(year), (month - 1) as usize) + day
+    days_gone((year - 1) as u64) as u32 + days_before(is_leap(year), month - 1) + day
 }
 
 // 1 is Monday and 7 Sunday.

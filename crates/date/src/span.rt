@@ -11,13 +11,12 @@ use period::Unit;
 pub fn within(n: u64) -> Dated
     ensures { λ r. ⌜ dated r ≡ withinSpan n ⌝ }
 {
-    if n < 657072 {
-        return Dated::Refused(refusal::BOOK);
+    if 657072 <= n {
+        if n <= 876216 {
+            return Dated::Day(Date { day: n as u32 });
+        }
     }
-    if 876216 < n {
-        return Dated::Refused(refusal::BOOK);
-    }
-    Dated::Day(Date { day: n as u32 })
+    Dated::Refused(refusal::BOOK)
 }
 
 fn least(a: u32, b: u32) -> u32

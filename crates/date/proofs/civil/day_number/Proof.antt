@@ -32,9 +32,6 @@ is-leap-requires c κs = search needs
 sub-days-before : tie.Need-sub-days-before
 sub-days-before c = search needs
 
-cast-days-before : tie.Need-cast-days-before
-cast-days-before c = search needs
-
 days-before-requires : tie.Need-days-before-requires
 days-before-requires c κs = search needs
 
@@ -58,7 +55,6 @@ day-number-spec =
     cast-result
     is-leap-requires
     sub-days-before
-    cast-days-before
     days-before-requires
     add-result
     add-result-2

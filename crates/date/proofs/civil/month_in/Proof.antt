@@ -10,9 +10,6 @@ use Rattle.date.proofs.civil.days_before.Reads as days-before-reads
 add-days-before : tie.Need-add-days-before
 add-days-before c = search needs
 
-cast-days-before : tie.Need-cast-days-before
-cast-days-before c = search needs
-
 days-before-requires : tie.Need-days-before-requires
 days-before-requires c κs = search needs
 
@@ -33,7 +30,6 @@ month-in-spec =
     tie.close
     (tie.spec
     add-days-before
-    cast-days-before
     days-before-requires
     add-result
     returns

@@ -8,6 +8,9 @@ use Rattle.date.proofs.span.within.Tie as tie
 use Rattle.date.proofs.span.within.Reads as reads
 use Rattle.date.proofs.span.within.Lts as lts
 
+cast-t4 : tie.Need-cast-t4
+cast-t4 c = search needs
+
 returns : tie.Need-returns
 unfolding dated
 returns c = search (span-early, span-late, span-in, needs)
@@ -16,12 +19,9 @@ returns-2 : tie.Need-returns-2
 unfolding dated
 returns-2 c = search (span-early, span-late, span-in, needs)
 
-cast-t3 : tie.Need-cast-t3
-cast-t3 c = search needs
-
 returns-3 : tie.Need-returns-3
 unfolding dated
 returns-3 c = search (span-early, span-late, span-in, needs)
 
 pub within-spec : {M : Type 1} → statement M
-within-spec = tie.close (tie.spec returns returns-2 cast-t3 returns-3)
+within-spec = tie.close (tie.spec cast-t4 returns returns-2 returns-3)
