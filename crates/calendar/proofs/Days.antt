@@ -1,6 +1,6 @@
 -- The invariants of the search for an open day, and a law for each way through its code. What both directions share is said once over the direction.
 -- Assumes nothing.
-use Prim.Native.Nat.{ℕ, suc, _+_, _-_, _≤_, _<_}
+use Prim.Native.Nat.{ℕ, suc, _+_, _-_, _/_, _%_, _^_, _≤_, _<_}
 use mathlib.Core.Path.{_≡_, refl, ap, sym, _∙_}
 use mathlib.Core.Bool.{Bool, true, false}
 use mathlib.Core.List.{List}
@@ -8,6 +8,7 @@ use mathlib.Core.Logic.{⊎-elim}
 use native.Mathlib.Nat.{eq-or-lt-of-le}
 use native.Mathlib.Omega.{arith}
 use lib.ListN.{length, getD}
+use lib.Dec.{eqb}
 use borrow.Author.Needs.{needs}
 use Rattle.refusal.specs.Answer.{given, refused, CLOSED}
 use Rattle.date.specs.Date.{step}
@@ -26,11 +27,12 @@ pub record Scan (back : Bool) (closed : List ℕ) (day at : ℕ) : Type 0 where
   pub within : at ≤ length closed
   pub passed : closedOk closed ≡ true → Passed back closed at day
 
-pub record Days (back : Bool) (mask : ℕ) (closed : List ℕ) (start day left at : ℕ) : Type 0 where
+pub record Days (back : Bool) (mask : ℕ) (closed : List ℕ) (start day left at weekday : ℕ) : Type 0 where
   pub least : left ≤ day
   pub most : day + left ≤ 876248
   pub scan : Scan back closed day at
   pub same : firstOpen mask closed back left day ≡ firstOpen mask closed back 31 start
+  pub on : weekday ≡ (day + 6) % 7
 
 -- ---- both directions
 step-least : (back : Bool) (day left : ℕ) → 0 < left → left ≤ day → left - 1 ≤ step back day 1
@@ -48,9 +50,17 @@ unfolding step Passed
 step-passed true closed at day p = record { after = λ k l h. omega (arith, p .after k l h) }
 step-passed false closed at day p = record { before = λ k l. omega (arith, p .before k l) }
 
-module _ {back : Bool} {mask : ℕ} {closed : List ℕ} {start day left at : ℕ} (g : Days back mask closed start day left at) where
+module _ {back : Bool} {mask : ℕ} {closed : List ℕ} {start day left at weekday : ℕ} (g : Days back mask closed start day left at weekday) where
   pub scan-of-days : Scan back closed day at
   scan-of-days = g .scan
+
+  pub is-weekday : weekday < 7
+  is-weekday = omega (arith, g .on)
+
+  -- the weekday's bit of the mask
+  weekly : {w : Bool} → w ≡ eqb (mask / 2 ^ weekday % 2) 1 → w ≡ weeklyClosed mask day
+  unfolding weeklyClosed
+  weekly p = p ∙ ap (λ (k : ℕ). eqb (mask / 2 ^ k % 2) 1) (g .on)
 
   none : left ≡ 0 → firstOpen mask closed back 31 start ≡ refused CLOSED
   none h = sym (g .same) ∙ ap (λ (k : ℕ). firstOpen mask closed back k day) h ∙ turn-none mask closed back day
@@ -60,49 +70,54 @@ module _ {back : Bool} {mask : ℕ} {closed : List ℕ} {start day left at : ℕ
     one-less = ap (λ (k : ℕ). firstOpen mask closed back k day) (omega arith)
 
     -- a closed day is passed over
-    skip : {to : ℕ} → isOpen mask closed day ≡ false → Scan back closed (step back day 1) to → Days back mask closed start (step back day 1) (left - 1) to
-    skip e s =
+    skip : {to next : ℕ} → next ≡ (step back day 1 + 6) % 7 → isOpen mask closed day ≡ false → Scan back closed (step back day 1) to → Days back mask closed start (step back day 1) (left - 1) to next
+    skip n e s =
         record {
           least = step-least back day left h (g .least);
           most = step-most back day left h (g .most);
           scan = s;
           same = sym (turn-shut mask closed back (left - 1) day e) ∙ sym one-less ∙ g .same;
+          on = n;
         }
 
-    skip-week : {w : Bool} → w ≡ weeklyClosed mask day → w ≡ true → Days back mask closed start (step back day 1) (left - 1) at
-    skip-week p q =
-        skip (shut-week mask closed day (sym p ∙ q))
+    skip-week : {w : Bool} {next : ℕ} → next ≡ (step back day 1 + 6) % 7 → w ≡ eqb (mask / 2 ^ weekday % 2) 1 → w ≡ true → Days back mask closed start (step back day 1) (left - 1) at next
+    skip-week n p q =
+        skip n (shut-week mask closed day (sym (weekly p) ∙ q))
         (record { within = g .scan .within; passed = λ ok. step-passed back closed at day (g .scan .passed ok) })
 
     -- an open day is the answer
-    take : {w : Bool} → w ≡ weeklyClosed mask day → w ≡ false → member day closed ≡ false → given day ≡ firstOpen mask closed back 31 start
+    take : {w : Bool} → w ≡ eqb (mask / 2 ^ weekday % 2) 1 → w ≡ false → member day closed ≡ false → given day ≡ firstOpen mask closed back 31 start
     take p q m =
-        sym (sym (g .same) ∙ one-less ∙ turn-open mask closed back (left - 1) day (is-open mask closed day (sym p ∙ q) m))
+        sym (sym (g .same) ∙ one-less ∙ turn-open mask closed back (left - 1) day (is-open mask closed day (sym (weekly p) ∙ q) m))
 
-pub days-none : {back : Bool} {mask : ℕ} {closed : List ℕ} {start day left at : ℕ} → Days back mask closed start day left at → left ≡ 0 → closedOk closed ≡ true → refused CLOSED ≡ firstOpen mask closed back 31 start
+pub days-none : {back : Bool} {mask : ℕ} {closed : List ℕ} {start day left at weekday : ℕ} → Days back mask closed start day left at weekday → left ≡ 0 → closedOk closed ≡ true → refused CLOSED ≡ firstOpen mask closed back 31 start
 days-none g h ok = sym (none g h)
 
 -- ---- on
-module _ {mask : ℕ} {closed : List ℕ} {start at : ℕ} where
-  pub ahead-start : 657072 ≤ start → start < 876217 → LowerBound closed start at → Days false mask closed start start 31 at
+module _ {mask : ℕ} {closed : List ℕ} {start at weekday : ℕ} where
+  pub ahead-start : 657072 ≤ start → start < 876217 → LowerBound closed start at → weekday ≡ (start + 6) % 7 → Days false mask closed start start 31 at weekday
   unfolding Passed
-  ahead-start l h b =
+  ahead-start l h b w =
       record {
         least = omega arith;
         most = omega arith;
         scan = record { within = b .within; passed = b .below };
         same = refl;
+        on = w;
       }
 
-module _ {mask : ℕ} {closed : List ℕ} {start day left at : ℕ} (g : Days false mask closed start day left at) (h : left ≡ 0 → ⊥) {w : Bool} (p : w ≡ weeklyClosed mask day) where
-  pub ahead-week : w ≡ true → Days false mask closed start (day + 1) (left - 1) at
-  unfolding step
-  ahead-week q = skip-week g (omega arith) p q
+module _ {mask : ℕ} {closed : List ℕ} {start day left at weekday : ℕ} (g : Days false mask closed start day left at weekday) (h : left ≡ 0 → ⊥) {w : Bool} (p : w ≡ eqb (mask / 2 ^ weekday % 2) 1) where
+  weekday-on : {next : ℕ} → next ≡ (weekday + 1) % 7 → next ≡ (day + 1 + 6) % 7
+  weekday-on n = omega (arith, g .on)
 
-  pub ahead-hit : {to : ℕ} → Scan false closed day to → to < length closed → getD closed to 0 ≡ day → Days false mask closed start (day + 1) (left - 1) (to + 1)
+  pub ahead-week : {next : ℕ} → next ≡ (weekday + 1) % 7 → w ≡ true → Days false mask closed start (day + 1) (left - 1) at next
+  unfolding step
+  ahead-week n q = skip-week g (omega arith) (weekday-on n) p q
+
+  pub ahead-hit : {to next : ℕ} → next ≡ (weekday + 1) % 7 → Scan false closed day to → to < length closed → getD closed to 0 ≡ day → Days false mask closed start (day + 1) (left - 1) (to + 1) next
   unfolding step Passed
-  ahead-hit {to} s l e =
-      skip g (omega arith) (shut-listed mask closed day (present closed to day l e))
+  ahead-hit {to} n s l e =
+      skip g (omega arith) (weekday-on n) (shut-listed mask closed day (present closed to day l e))
       (record {
         within = omega arith;
         passed = λ ok. record { before = λ k q. ⊎-elim (λ (z : k ≡ to). rw z (omega arith)) (λ (z : k < to). omega (arith, s .passed ok .before k z)) (eq-or-lt-of-le (omega arith)) };
@@ -128,29 +143,33 @@ ahead-next {closed} {day} {at} s l h e =
     less : (x : ℕ) → x ≤ day → (x ≡ day → ⊥) → x < day
     less x a b = ⊎-elim (λ (z : x ≡ day). absurd (b z)) (λ (z : x < day). z) (eq-or-lt-of-le a)
 
-pub ruleset ahead-rules = (ahead-start, scan-of-days, days-none, ahead-week, ahead-hit, ahead-stop, ahead-end, ahead-next, needs)
+pub ruleset ahead-rules = (ahead-start, scan-of-days, is-weekday, days-none, ahead-week, ahead-hit, ahead-stop, ahead-end, ahead-next, needs)
 
 -- ---- back
-module _ {mask : ℕ} {closed : List ℕ} {start at : ℕ} where
-  pub behind-start : 657072 ≤ start → start < 876217 → LowerBound closed (start + 1) at → Days true mask closed start start 31 at
+module _ {mask : ℕ} {closed : List ℕ} {start at weekday : ℕ} where
+  pub behind-start : 657072 ≤ start → start < 876217 → LowerBound closed (start + 1) at → weekday ≡ (start + 6) % 7 → Days true mask closed start start 31 at weekday
   unfolding Passed
-  behind-start l h b =
+  behind-start l h b w =
       record {
         least = omega arith;
         most = omega arith;
         scan = record { within = b .within; passed = λ ok. record { after = λ k q r. omega (arith, b .from ok k q r) } };
         same = refl;
+        on = w;
       }
 
-module _ {mask : ℕ} {closed : List ℕ} {start day left at : ℕ} (g : Days true mask closed start day left at) (h : left ≡ 0 → ⊥) {w : Bool} (p : w ≡ weeklyClosed mask day) where
-  pub behind-week : w ≡ true → Days true mask closed start (day - 1) (left - 1) at
-  unfolding step
-  behind-week q = skip-week g (omega arith) p q
+module _ {mask : ℕ} {closed : List ℕ} {start day left at weekday : ℕ} (g : Days true mask closed start day left at weekday) (h : left ≡ 0 → ⊥) {w : Bool} (p : w ≡ eqb (mask / 2 ^ weekday % 2) 1) where
+  weekday-back : {next : ℕ} → next ≡ (weekday + 6) % 7 → next ≡ (day - 1 + 6) % 7
+  weekday-back n = omega (arith, g .on, g .least)
 
-  pub behind-hit : {to : ℕ} → Scan true closed day to → 0 < to → getD closed (to - 1) 0 ≡ day → Days true mask closed start (day - 1) (left - 1) (to - 1)
+  pub behind-week : {next : ℕ} → next ≡ (weekday + 6) % 7 → w ≡ true → Days true mask closed start (day - 1) (left - 1) at next
+  unfolding step
+  behind-week n q = skip-week g (omega arith) (weekday-back n) p q
+
+  pub behind-hit : {to next : ℕ} → next ≡ (weekday + 6) % 7 → Scan true closed day to → 0 < to → getD closed (to - 1) 0 ≡ day → Days true mask closed start (day - 1) (left - 1) (to - 1) next
   unfolding step Passed
-  behind-hit {to} s l e =
-      skip g (omega arith) (shut-listed mask closed day (present closed (to - 1) day (omega (arith, s .within)) e))
+  behind-hit {to} n s l e =
+      skip g (omega arith) (weekday-back n) (shut-listed mask closed day (present closed (to - 1) day (omega (arith, s .within)) e))
       (record {
         within = omega (arith, s .within);
         passed = λ ok. record { after = λ k q r. ⊎-elim (λ (z : to - 1 ≡ k). rw (← z) (omega (arith, g .least))) (λ (z : to - 1 < k). omega (arith, s .passed ok .after k (omega arith) r)) (eq-or-lt-of-le q) };
@@ -176,4 +195,4 @@ behind-next {closed} {day} {at} s l h e =
     more : (x : ℕ) → day ≤ x → (x ≡ day → ⊥) → day < x
     more x a b = ⊎-elim (λ (z : day ≡ x). absurd (b (sym z))) (λ (z : day < x). z) (eq-or-lt-of-le a)
 
-pub ruleset behind-rules = (behind-start, scan-of-days, days-none, behind-week, behind-hit, behind-stop, behind-end, behind-next, needs)
+pub ruleset behind-rules = (behind-start, scan-of-days, is-weekday, days-none, behind-week, behind-hit, behind-stop, behind-end, behind-next, needs)

@@ -1,7 +1,7 @@
--- The bisection's invariant, and a law for each way through its code.
+-- What a comparison tells of where the place is.
 -- Assumes nothing.
-use Prim.Native.Nat.{ℕ, _+_, _-_, _/_, _≤_, _<_}
-use mathlib.Core.Path.{_≡_}
+use Prim.Native.Nat.{ℕ, _+_, _≤_, _<_}
+use mathlib.Core.Path.{_≡_, sym}
 use mathlib.Core.Bool.{true}
 use mathlib.Core.List.{List}
 use mathlib.Core.Logic.{⊎-elim}
@@ -11,14 +11,7 @@ use lib.ListN.{length, getD}
 use borrow.Author.Needs.{needs}
 use Rattle.calendar.specs.Open.{closedOk}
 use Rattle.calendar.specs.Kept.{ok-at}
-use Rattle.calendar.specs.Places.{Below, LowerBound}
-
--- in a list that keeps its rule the dates before `lo` are before x, and those from `hi` on are not
-pub record Bracket (closed : List ℕ) (x lo hi : ℕ) : Type 0 where
-  pub order : lo ≤ hi
-  pub within : hi ≤ length closed
-  pub below : closedOk closed ≡ true → Below closed lo x
-  pub from : closedOk closed ≡ true → (k : ℕ) → hi ≤ k → k < length closed → x ≤ getD closed k 0
+use Rattle.calendar.specs.Places.{LowerBound, Bracket}
 
 pub bracket-start : {closed : List ℕ} {x : ℕ} → Bracket closed x 0 (length closed)
 bracket-start =
@@ -30,24 +23,22 @@ bracket-start =
     }
 
 module _ {closed : List ℕ} {x lo hi : ℕ} (b : Bracket closed x lo hi) where
-  pub bracket-up : lo < hi → getD closed (lo + (hi - lo) / 2) 0 < x → Bracket closed x (lo + (hi - lo) / 2 + 1) hi
-  bracket-up h c =
-      let m : ℕ = lo + (hi - lo) / 2 in
+  pub bracket-up : {m : ℕ} → lo ≤ m → m < hi → getD closed m 0 < x → Bracket closed x (m + 1) hi
+  bracket-up {m} l h c =
       record {
         order = omega arith;
         within = b .within;
-        below = λ ok. record { before = λ k l. ⊎-elim (λ (p : k ≡ m). rw p c) (λ (p : k < m). omega (arith, ok-at closed k m ok p (omega (arith, b .within)))) (eq-or-lt-of-le (omega arith)) };
+        below = λ ok. record { before = λ k q. ⊎-elim (λ (p : k ≡ m). rw p c) (λ (p : k < m). omega (arith, ok-at closed k m ok p (omega (arith, b .within)))) (eq-or-lt-of-le (omega arith)) };
         from = b .from;
       }
 
-  pub bracket-down : lo < hi → x ≤ getD closed (lo + (hi - lo) / 2) 0 → Bracket closed x lo (lo + (hi - lo) / 2)
-  bracket-down h c =
-      let m : ℕ = lo + (hi - lo) / 2 in
+  pub bracket-down : {m : ℕ} → lo ≤ m → m < hi → x ≤ getD closed m 0 → Bracket closed x lo m
+  bracket-down {m} l h c =
       record {
-        order = omega arith;
+        order = l;
         within = omega (arith, b .within);
         below = b .below;
-        from = λ ok k l r. ⊎-elim (λ (p : m ≡ k). rw (← p) c) (λ (p : m < k). omega (arith, ok-at closed m k ok p r)) (eq-or-lt-of-le l);
+        from = λ ok k q r. ⊎-elim (λ (p : m ≡ k). rw (← p) c) (λ (p : m < k). omega (arith, ok-at closed m k ok p r)) (eq-or-lt-of-le q);
       }
 
   pub bracket-end : hi ≤ lo → LowerBound closed x lo
@@ -58,4 +49,33 @@ module _ {closed : List ℕ} {x lo hi : ℕ} (b : Bracket closed x lo hi) where
         from = λ ok k l r. b .from ok k (omega arith) r;
       }
 
-pub ruleset places = (bracket-start, bracket-up, bracket-down, bracket-end, needs)
+-- ---- the place of the next day
+module _ {closed : List ℕ} {x at : ℕ} (b : LowerBound closed x at) where
+  pub after-listed : at < length closed → getD closed at 0 ≡ x → LowerBound closed (x + 1) (at + 1)
+  after-listed h e =
+      record {
+        within = omega arith;
+        below = λ ok. record { before = λ k q. ⊎-elim (λ (p : k ≡ at). rw p (omega arith)) (λ (p : k < at). omega (arith, b .below ok .before k p)) (eq-or-lt-of-le (omega arith)) };
+        from = λ ok k q r. omega (arith, ok-at closed at k ok (omega arith) r);
+      }
+
+  -- where the date at the place is another one, or none is there
+  after-from : (closedOk closed ≡ true → (k : ℕ) → at ≤ k → k < length closed → x < getD closed k 0) → LowerBound closed (x + 1) at
+  after-from f =
+      record {
+        within = b .within;
+        below = λ ok. record { before = λ k q. omega (arith, b .below ok .before k q) };
+        from = λ ok k q r. omega (arith, f ok k q r);
+      }
+
+  pub after-other : at < length closed → (getD closed at 0 ≡ x → ⊥) → LowerBound closed (x + 1) at
+  after-other h e =
+      after-from (λ ok k q r. ⊎-elim (λ (p : at ≡ k). rw (← p) (more (getD closed at 0) (b .from ok at (omega arith) h) e)) (λ (p : at < k). omega (arith, ok-at closed at k ok p r, b .from ok at (omega arith) h)) (eq-or-lt-of-le q))
+    where
+      more : (y : ℕ) → x ≤ y → (y ≡ x → ⊥) → x < y
+      more y a d = ⊎-elim (λ (z : x ≡ y). absurd (d (sym z))) (λ (z : x < y). z) (eq-or-lt-of-le a)
+
+  pub after-end : length closed ≤ at → LowerBound closed (x + 1) at
+  after-end h = after-from (λ ok k q r. let bad : ⊥ = omega arith in absurd bad)
+
+pub ruleset places = (bracket-start, bracket-up, bracket-down, bracket-end, after-listed, after-other, after-end, needs)

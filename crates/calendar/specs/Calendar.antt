@@ -15,6 +15,8 @@ use Rattle.calendar.specs.declared.Checked.{Checked}
 use Rattle.calendar.specs.declared.Checked.the-variants as checked-is
 use Rattle.calendar.specs.declared.Decided.{Decided}
 use Rattle.calendar.specs.declared.Decided.the-variants as decided-is
+use Rattle.calendar.specs.declared.search.Placed.{Placed}
+use Rattle.calendar.specs.declared.search.Placed.the-variants as placed-is
 use Rattle.calendar.specs.Open.{isOpen, calendarOk}
 use Rattle.calendar.specs.Adjust.{adjusted, lastOpen, atMonthEnd, advanced}
 
@@ -30,6 +32,11 @@ unfoldable pub decided : Decided → Answer Bool
 decided decided-is.Yes = given true
 decided decided-is.No = given false
 decided (decided-is.Refused n) = refused n
+
+-- the adjusted date alone: the place beside it is a guess for the next day, and nothing is promised of it
+unfoldable pub placed : Placed → Answer ℕ
+placed (placed-is.Day day place) = given day
+placed (placed-is.Refused n) = refused n
 
 -- ---- the public functions
 unfoldable pub checkOf : ℕ → List ℕ → Answer Sound

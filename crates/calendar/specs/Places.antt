@@ -19,3 +19,10 @@ pub record LowerBound (closed : List ℕ) (x i : ℕ) : Type 0 where
   pub within : i ≤ length closed
   pub below : closedOk closed ≡ true → Below closed i x
   pub from : closedOk closed ≡ true → (k : ℕ) → i ≤ k → k < length closed → x ≤ getD closed k 0
+
+-- the same place, known to lie from `lo` to `hi`
+pub record Bracket (closed : List ℕ) (x lo hi : ℕ) : Type 0 where
+  pub order : lo ≤ hi
+  pub within : hi ≤ length closed
+  pub below : closedOk closed ≡ true → Below closed lo x
+  pub from : closedOk closed ≡ true → (k : ℕ) → hi ≤ k → k < length closed → x ≤ getD closed k 0

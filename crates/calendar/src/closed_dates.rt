@@ -1,7 +1,9 @@
 // A list of closed dates: at most 4,096, strictly ascending, from 1800-01-01 to 2399-12-31.
 ghost use mathlib.Core.Path.{_≡_};
+ghost use Prim.Native.Nat.{_+_};
+ghost use lib.ListN.{length};
 ghost use Rattle.calendar.specs.Open.{closedOk};
-ghost use Rattle.calendar.specs.Places.{LowerBound};
+ghost use Rattle.calendar.specs.Places.{Bracket, LowerBound};
 
 // Whether the list keeps its rule: one pass, without a branch for each date. As the dates ascend, the last alone is held against the
 // upper bound.
@@ -23,12 +25,13 @@ pub(crate) fn keep_rule(closed: &[u32]) -> bool
     keeps & (closed[i - 1] < 876217)
 }
 
-// The first place whose date is at least x, or the length.
-pub(crate) fn lower_bound(closed: &[u32], x: u32) -> usize
+// The first place whose date is at least x, or the length, known to lie from one place to another.
+fn bisect(closed: &[u32], x: u32, from: usize, to: usize) -> usize
+    requires { ⌜ Bracket (now closed) x from to ⌝ }
     ensures { λ r. ⌜ LowerBound (now (closed .entry)) x r ⌝ }
 {
-    let mut lo = 0;
-    let mut hi = closed.len();
+    let mut lo = from;
+    let mut hi = to;
     while lo < hi {
         let mid = lo + (hi - lo) / 2;
         if closed[mid] < x {
@@ -38,4 +41,73 @@ pub(crate) fn lower_bound(closed: &[u32], x: u32) -> usize
         }
     }
     lo
+}
+
+// The same place, up to a place that is known, looked for from there in steps that double.
+fn place_up_to(closed: &[u32], x: u32, to: usize) -> usize
+    requires { ⌜ Bracket (now closed) x 0 to ⌝ }
+    ensures { λ r. ⌜ LowerBound (now (closed .entry)) x r ⌝ }
+{
+    let mut hi = to;
+    let mut step = 1;
+    while step <= hi {
+        let at = hi - step;
+        if closed[at] < x {
+            return bisect(closed, x, at + 1, hi);
+        }
+        hi = at;
+        step += step;
+    }
+    bisect(closed, x, 0, hi)
+}
+
+// The mirror, from a place on.
+fn place_from(closed: &[u32], x: u32, from: usize) -> usize
+    requires { ⌜ Bracket (now closed) x from (length (now closed)) ⌝ }
+    ensures { λ r. ⌜ LowerBound (now (closed .entry)) x r ⌝ }
+{
+    let mut lo = from;
+    let mut step = 1;
+    while step < closed.len() - lo {
+        let at = lo + step;
+        if x <= closed[at] {
+            return bisect(closed, x, lo, at);
+        }
+        lo = at + 1;
+        step += step;
+    }
+    bisect(closed, x, lo, closed.len())
+}
+
+// The first place whose date is at least x, or the length.
+pub(crate) fn lower_bound(closed: &[u32], x: u32) -> usize
+    ensures { λ r. ⌜ LowerBound (now (closed .entry)) x r ⌝ }
+{
+    bisect(closed, x, 0, closed.len())
+}
+
+// The same place, looked for from a guess: it costs the logarithm of how far the guess was off.
+pub(crate) fn place_near(closed: &[u32], x: u32, guess: usize) -> usize
+    ensures { λ r. ⌜ LowerBound (now (closed .entry)) x r ⌝ }
+{
+    if guess < closed.len() {
+        if closed[guess] < x {
+            return place_from(closed, x, guess + 1);
+        }
+        return place_up_to(closed, x, guess);
+    }
+    place_up_to(closed, x, closed.len())
+}
+
+// The place of the next day, from that of a day.
+pub(crate) fn place_after(closed: &[u32], x: u32, place: usize) -> usize
+    requires { ⌜ LowerBound (now closed) x place ⌝ }
+    ensures { λ r. ⌜ LowerBound (now (closed .entry)) (x + 1) r ⌝ }
+{
+    if place < closed.len() {
+        if closed[place] == x {
+            return place + 1;
+        }
+    }
+    place
 }

@@ -1,14 +1,17 @@
 // Open days from 1800-01-01 to 2399-12-31, for the crates above: on a list of closed dates that the caller has checked.
-// A search costs the logarithm of the list and at most thirty-one steps.
+// A search costs the logarithm of the list and at most thirty-one steps. A day's place is the first in the list whose date is at least
+// the day, or the length.
 ghost use mathlib.Core.Path.{_≡_};
 ghost use mathlib.Core.Bool.{true, false};
-ghost use Prim.Native.Nat.{_≤_, _<_};
+ghost use Prim.Native.Nat.{_+_, _/_, _%_, _^_, _≤_, _<_};
+ghost use lib.Dec.{eqb};
 ghost use Rattle.refusal.specs.Answer.{then};
 ghost use Rattle.date.specs.Date.{dated, step};
 ghost use Rattle.calendar.specs.declared.Convention.the-variants.{Following, ModifiedFollowing, Preceding, ModifiedPreceding};
 ghost use Rattle.calendar.specs.Open.{weeklyClosed, isOpen, closedOk};
+ghost use Rattle.calendar.specs.Places.{LowerBound};
 ghost use Rattle.calendar.specs.Adjust.{inSpan, firstOpen, sameMonth, towards, adjusted, lastOpen, atMonthEnd, openSteps, endAsked, landed, addWeeks, addMonths, advanced};
-ghost use Rattle.calendar.specs.Calendar.{decided};
+ghost use Rattle.calendar.specs.Calendar.{decided, placed};
 use crate::Convention;
 use crate::Decided;
 use crate::closed_dates;
@@ -21,18 +24,51 @@ use period::Unit;
 // How many days a search tries.
 const TRIES: u32 = 31;
 
+// An adjusted date, and a place to look from for a day near the one that was adjusted.
+pub enum Placed {
+    Day { day: u32, place: usize },
+    Refused(u8),
+}
+
 fn in_span(day: u32) -> bool
     ensures { λ r. ⌜ r ≡ inSpan day ⌝ }
 {
     657072 <= day && day <= 876216
 }
 
-// The weekday's bit of the mask is set: Monday is the lowest bit, and day 1 is a Monday.
+// The weekday, from 0 for a Monday; day 1 is one.
+fn weekday_of(day: u32) -> u32
+    ensures { λ r. ⌜ r ≡ (day + 6) % 7 ⌝ }
+{
+    ((day as u64 + 6) % 7) as u32
+}
+
+fn weekday_after(weekday: u32) -> u32
+    requires { ⌜ weekday < 7 ⌝ }
+    ensures { λ r. ⌜ r ≡ (weekday + 1) % 7 ⌝ }
+{
+    if weekday == 6 { 0 } else { weekday + 1 }
+}
+
+fn weekday_before(weekday: u32) -> u32
+    requires { ⌜ weekday < 7 ⌝ }
+    ensures { λ r. ⌜ r ≡ (weekday + 6) % 7 ⌝ }
+{
+    if weekday == 0 { 6 } else { weekday - 1 }
+}
+
+// The weekday's bit of the mask is set: Monday is the lowest bit.
+fn is_masked(weekday: u32, mask: u8) -> bool
+    requires { ⌜ weekday < 7 ⌝ }
+    ensures { λ r. ⌜ r ≡ eqb (mask / 2 ^ weekday % 2) 1 ⌝ }
+{
+    (mask >> weekday) % 2 == 1
+}
+
 fn weekly_closed(day: u32, mask: u8) -> bool
     ensures { λ r. ⌜ r ≡ weeklyClosed mask day ⌝ }
 {
-    let weekday = ((day as u64 + 6) % 7) as u32;
-    (mask >> weekday) % 2 == 1
+    is_masked(weekday_of(day), mask)
 }
 
 // Whether the later day's month has begun by the earlier day: a day is as far into its month as its day of the month says, so that
@@ -57,35 +93,45 @@ fn same_month(a: u32, b: u32) -> bool
     true
 }
 
-pub(crate) fn is_open(day: u32, mask: u8, closed: &[u32]) -> bool
+// Whether a day is open, told at its place.
+fn is_open_at(place: usize, day: u32, mask: u8, closed: &[u32]) -> bool
+    requires { ⌜ LowerBound (now closed) day place ⌝ }
     ensures { λ r. ⌜ (closedOk (now (closed .entry)) ≡ true → r ≡ isOpen mask (now (closed .entry)) day) ⌝ }
 {
     if weekly_closed(day, mask) {
         return false;
     }
-    let at = closed_dates::lower_bound(closed, day);
-    if at < closed.len() {
-        return closed[at] != day;
+    if place < closed.len() {
+        return closed[place] != day;
     }
     true
 }
 
-// The first open day of the thirty-one that start at `day`. The scan of the closed dates starts at the lower bound and never goes back.
-fn ahead(day: u32, mask: u8, closed: &[u32]) -> Dated
-    requires { ⌜ (657072 ≤ day) × (day < 876217) ⌝ }
+pub(crate) fn is_open(day: u32, mask: u8, closed: &[u32]) -> bool
+    ensures { λ r. ⌜ (closedOk (now (closed .entry)) ≡ true → r ≡ isOpen mask (now (closed .entry)) day) ⌝ }
+{
+    is_open_at(closed_dates::lower_bound(closed, day), day, mask, closed)
+}
+
+// The first open day of the thirty-one that start at `day`. The scan of the closed dates starts at its place and never goes back.
+fn ahead(place: usize, day: u32, mask: u8, closed: &[u32]) -> Dated
+    requires { ⌜ (657072 ≤ day) × (day < 876217) × LowerBound (now closed) day place ⌝ }
     ensures { λ r. ⌜ (closedOk (now (closed .entry)) ≡ true → dated r ≡ firstOpen mask (now (closed .entry)) false 31 day) ⌝ }
 {
-    let mut at = closed_dates::lower_bound(closed, day);
+    let mut at = place;
     let mut d = day;
     let mut left = TRIES;
+    let mut weekday = weekday_of(day);
     let open = 'days: loop {
         if left == 0 {
             return Dated::Refused(refusal::CLOSED);
         }
         let here = d;
+        let shut = is_masked(weekday, mask);
         d += 1;
         left -= 1;
-        if weekly_closed(here, mask) {
+        weekday = weekday_after(weekday);
+        if shut {
             continue 'days;
         }
         'scan: while at < closed.len() {
@@ -104,21 +150,24 @@ fn ahead(day: u32, mask: u8, closed: &[u32]) -> Dated
 }
 
 // The mirror: the first open day of the thirty-one that end at `day`, from the last.
-fn behind(day: u32, mask: u8, closed: &[u32]) -> Dated
-    requires { ⌜ (657072 ≤ day) × (day < 876217) ⌝ }
+fn behind(place: usize, day: u32, mask: u8, closed: &[u32]) -> Dated
+    requires { ⌜ (657072 ≤ day) × (day < 876217) × LowerBound (now closed) day place ⌝ }
     ensures { λ r. ⌜ (closedOk (now (closed .entry)) ≡ true → dated r ≡ firstOpen mask (now (closed .entry)) true 31 day) ⌝ }
 {
-    let mut at = closed_dates::lower_bound(closed, day + 1);
+    let mut at = closed_dates::place_after(closed, day, place);
     let mut d = day;
     let mut left = TRIES;
+    let mut weekday = weekday_of(day);
     let open = 'days: loop {
         if left == 0 {
             return Dated::Refused(refusal::CLOSED);
         }
         let here = d;
+        let shut = is_masked(weekday, mask);
         d -= 1;
         left -= 1;
-        if weekly_closed(here, mask) {
+        weekday = weekday_before(weekday);
+        if shut {
             continue 'days;
         }
         'scan: while 0 < at {
@@ -136,11 +185,12 @@ fn behind(day: u32, mask: u8, closed: &[u32]) -> Dated
     Dated::Day(Date { day: open })
 }
 
-pub fn following(day: u32, mask: u8, closed: &[u32]) -> Dated
+fn following_from(place: usize, day: u32, mask: u8, closed: &[u32]) -> Dated
+    requires { ⌜ LowerBound (now closed) day place ⌝ }
     ensures { λ r. ⌜ (closedOk (now (closed .entry)) ≡ true → dated r ≡ adjusted mask (now (closed .entry)) Following day) ⌝ }
 {
     if in_span(day) {
-        let first = ahead(day, mask, closed);
+        let first = ahead(place, day, mask, closed);
         match first {
             Dated::Day(open) => return span::within(open.day as u64),
             Dated::Refused(n) => return Dated::Refused(n),
@@ -149,11 +199,12 @@ pub fn following(day: u32, mask: u8, closed: &[u32]) -> Dated
     Dated::Refused(refusal::BOOK)
 }
 
-pub fn preceding(day: u32, mask: u8, closed: &[u32]) -> Dated
+fn preceding_from(place: usize, day: u32, mask: u8, closed: &[u32]) -> Dated
+    requires { ⌜ LowerBound (now closed) day place ⌝ }
     ensures { λ r. ⌜ (closedOk (now (closed .entry)) ≡ true → dated r ≡ adjusted mask (now (closed .entry)) Preceding day) ⌝ }
 {
     if in_span(day) {
-        let first = behind(day, mask, closed);
+        let first = behind(place, day, mask, closed);
         match first {
             Dated::Day(open) => return span::within(open.day as u64),
             Dated::Refused(n) => return Dated::Refused(n),
@@ -162,46 +213,73 @@ pub fn preceding(day: u32, mask: u8, closed: &[u32]) -> Dated
     Dated::Refused(refusal::BOOK)
 }
 
-fn modified_following(day: u32, mask: u8, closed: &[u32]) -> Dated
+fn modified_following(place: usize, day: u32, mask: u8, closed: &[u32]) -> Dated
+    requires { ⌜ LowerBound (now closed) day place ⌝ }
     ensures { λ r. ⌜ (closedOk (now (closed .entry)) ≡ true → dated r ≡ adjusted mask (now (closed .entry)) ModifiedFollowing day) ⌝ }
 {
-    let first = following(day, mask, closed);
+    let first = following_from(place, day, mask, closed);
     match first {
         Dated::Day(later) => {
             if same_month(day, later.day) {
                 return Dated::Day(later);
             }
-            preceding(day, mask, closed)
+            preceding_from(place, day, mask, closed)
         }
         Dated::Refused(n) => Dated::Refused(n),
     }
 }
 
-fn modified_preceding(day: u32, mask: u8, closed: &[u32]) -> Dated
+fn modified_preceding(place: usize, day: u32, mask: u8, closed: &[u32]) -> Dated
+    requires { ⌜ LowerBound (now closed) day place ⌝ }
     ensures { λ r. ⌜ (closedOk (now (closed .entry)) ≡ true → dated r ≡ adjusted mask (now (closed .entry)) ModifiedPreceding day) ⌝ }
 {
-    let first = preceding(day, mask, closed);
+    let first = preceding_from(place, day, mask, closed);
     match first {
         Dated::Day(earlier) => {
             if same_month(day, earlier.day) {
                 return Dated::Day(earlier);
             }
-            following(day, mask, closed)
+            following_from(place, day, mask, closed)
         }
         Dated::Refused(n) => Dated::Refused(n),
     }
 }
 
-fn searched(day: u32, convention: Convention, mask: u8, closed: &[u32]) -> Dated
+fn search_from(place: usize, day: u32, convention: Convention, mask: u8, closed: &[u32]) -> Dated
+    requires { ⌜ LowerBound (now closed) day place ⌝ }
     ensures { λ r. ⌜ (closedOk (now (closed .entry)) ≡ true → dated r ≡ adjusted mask (now (closed .entry)) convention day) ⌝ }
 {
     match convention {
         Convention::Unadjusted => span::within(day as u64),
-        Convention::Following => following(day, mask, closed),
-        Convention::ModifiedFollowing => modified_following(day, mask, closed),
-        Convention::Preceding => preceding(day, mask, closed),
-        Convention::ModifiedPreceding => modified_preceding(day, mask, closed),
+        Convention::Following => following_from(place, day, mask, closed),
+        Convention::ModifiedFollowing => modified_following(place, day, mask, closed),
+        Convention::Preceding => preceding_from(place, day, mask, closed),
+        Convention::ModifiedPreceding => modified_preceding(place, day, mask, closed),
     }
+}
+
+pub fn following(day: u32, mask: u8, closed: &[u32]) -> Dated
+    ensures { λ r. ⌜ (closedOk (now (closed .entry)) ≡ true → dated r ≡ adjusted mask (now (closed .entry)) Following day) ⌝ }
+{
+    following_from(closed_dates::lower_bound(closed, day), day, mask, closed)
+}
+
+pub fn preceding(day: u32, mask: u8, closed: &[u32]) -> Dated
+    ensures { λ r. ⌜ (closedOk (now (closed .entry)) ≡ true → dated r ≡ adjusted mask (now (closed .entry)) Preceding day) ⌝ }
+{
+    preceding_from(closed_dates::lower_bound(closed, day), day, mask, closed)
+}
+
+fn searched(day: u32, convention: Convention, mask: u8, closed: &[u32]) -> Dated
+    ensures { λ r. ⌜ (closedOk (now (closed .entry)) ≡ true → dated r ≡ adjusted mask (now (closed .entry)) convention day) ⌝ }
+{
+    search_from(
+        closed_dates::lower_bound(closed, day),
+        day,
+        convention,
+        mask,
+        closed,
+    )
 }
 
 // An open day is its own adjusted date, so only a closed one is searched from.
@@ -211,10 +289,42 @@ pub fn adjust(day: u32, convention: Convention, mask: u8, closed: &[u32]) -> Dat
     match convention {
         Convention::Unadjusted => span::within(day as u64),
         _ => {
-            if is_open(day, mask, closed) {
+            let place = closed_dates::lower_bound(closed, day);
+            if is_open_at(place, day, mask, closed) {
                 return span::within(day as u64);
             }
-            searched(day, convention, mask, closed)
+            search_from(place, day, convention, mask, closed)
+        }
+    }
+}
+
+fn with_place(found: Dated, place: usize) -> Placed
+    ensures { λ r. ⌜ placed r ≡ dated found ⌝ }
+{
+    match found {
+        Dated::Day(d) => Placed::Day { day: d.day, place },
+        Dated::Refused(n) => Placed::Refused(n),
+    }
+}
+
+// The same for one day after another: the day's place is looked for from a guess, as the place that a day near it had.
+pub fn adjust_near(
+    day: u32,
+    guess: usize,
+    convention: Convention,
+    mask: u8,
+    closed: &[u32],
+) -> Placed
+    ensures { λ r. ⌜ (closedOk (now (closed .entry)) ≡ true → placed r ≡ adjusted mask (now (closed .entry)) convention day) ⌝ }
+{
+    match convention {
+        Convention::Unadjusted => with_place(span::within(day as u64), guess),
+        _ => {
+            let place = closed_dates::place_near(closed, day, guess);
+            if is_open_at(place, day, mask, closed) {
+                return with_place(span::within(day as u64), place);
+            }
+            with_place(search_from(place, day, convention, mask, closed), place)
         }
     }
 }

@@ -6,7 +6,7 @@ use mathlib.Core.List.{List}
 use Prim.Native.Nat.{ℕ}
 use lib.Dec.{ltb}
 use borrow.Author.Tests.{eq-eqb, ne-eqb}
-use Rattle.refusal.specs.Answer.{given}
+use Rattle.refusal.specs.Answer.{given, refused}
 use Rattle.refusal.specs.Laws.{then-given, then-refused}
 use Rattle.date.specs.declared.Date.{Date}
 use Rattle.date.specs.declared.Dated.{Dated}
@@ -48,39 +48,36 @@ module _ (settled : Bool) (mask : ℕ) (closed : List ℕ) (convention : Convent
   unfolding unlessPastKept told Learnt
   compare-stop found p n e = record { says = then-refused _ n _ (refused-day found n _ p e); learnt = tt }
 
-  module _ (held : ℕ) (known : adjusted mask closed convention newest ≡ given held) (moved : Dated) (s : dated moved ≡ adjusted mask closed convention day) where
-    pub compare-closed : (n : ℕ) → moved ≡ Refused n → Compared mask closed convention newest (unlessPastKept settled false mask closed convention newest day) (Stop n)
+  module _ (held : ℕ) (known : adjusted mask closed convention newest ≡ given held) where
+    pub compare-closed : (n : ℕ) → adjusted mask closed convention day ≡ refused n → Compared mask closed convention newest (unlessPastKept settled false mask closed convention newest day) (Stop n)
     unfolding unlessPastKept told Learnt
-    compare-closed n e =
-        record { says = then-given _ held _ _ known (then-refused _ n _ (refused-day moved n _ s e)); learnt = tt }
+    compare-closed n e = record { says = then-given _ held _ _ known (then-refused _ n _ e); learnt = tt }
 
-    module _ (b : Date) (t : moved ≡ Day b) where
-      pub compare-skip : held ≡ b .day → Compared mask closed convention newest (unlessPastKept settled false mask closed convention newest day) (Skip held)
+    module _ (b place : ℕ) (t : adjusted mask closed convention day ≡ given b) where
+      pub compare-skip : held ≡ b → Compared mask closed convention newest (unlessPastKept settled false mask closed convention newest day) (Skip held place)
       unfolding unlessPastKept told Learnt unlessSame
       compare-skip e =
           record {
-            says = then-given _ held _ _ known (then-given _ (b .day) _ _ (given-day moved b _ s t) (rw (eq-eqb held (b .day) e) refl));
+            says = then-given _ held _ _ known (then-given _ b _ _ t (rw (eq-eqb held b e) refl));
             learnt = front-from mask closed convention newest held known;
           }
 
-      module _ (e : held ≡ b .day → ⊥) where
-        pub compare-keep : settled ≡ false → Compared mask closed convention newest (unlessPastKept settled false mask closed convention newest day) (Keep day (b .day))
+      module _ (e : held ≡ b → ⊥) where
+        pub compare-keep : settled ≡ false → Compared mask closed convention newest (unlessPastKept settled false mask closed convention newest day) (Keep day b place)
         unfolding unlessPastKept told Learnt unlessSame
         compare-keep f =
             record {
-              says = then-given _ held _ _ known (then-given _ (b .day) _ _ (given-day moved b _ s t) (rw (ne-eqb held (b .day) e, f) refl));
-              learnt = front-from mask closed convention day (b .day) (given-day moved b _ s t);
+              says = then-given _ held _ _ known (then-given _ b _ _ t (rw (ne-eqb held b e, f) refl));
+              learnt = front-from mask closed convention day b t;
             }
 
         -- the date kept is adjusted already
-        pub compare-settle : settled ≡ true → Compared mask closed convention newest (unlessPastKept settled false mask closed convention newest day) (Keep (b .day) (b .day))
+        pub compare-settle : settled ≡ true → Compared mask closed convention newest (unlessPastKept settled false mask closed convention newest day) (Keep b b place)
         unfolding unlessPastKept told Learnt unlessSame
         compare-settle f =
             record {
-              says = then-given _ held _ _ known (then-given _ (b .day) _ _ (given-day moved b _ s t) (rw (ne-eqb held (b .day) e, f) refl));
-              learnt =
-                  front-from mask closed convention (b .day) (b .day)
-                  (adjust-again mask closed convention day (b .day) (given-day moved b _ s t));
+              says = then-given _ held _ _ known (then-given _ b _ _ t (rw (ne-eqb held b e, f) refl));
+              learnt = front-from mask closed convention b b (adjust-again mask closed convention day b t);
             }
 
 -- ---- the k-th candidate

@@ -79,9 +79,9 @@ module _ {settled : Bool} {mask : ℕ} {closed : List ℕ} {convention : Convent
       unfolding told then walked Stands onTurn
       walk-past e = record { says = rw e at opened; stands = (g .begun .part, g .begun .some, g .front-known) }
 
-      pub walk-skip : (a : ℕ) → r ≡ Skip a → Going settled mask closed convention back pace seed exit room o work marks n (k + 1) a
+      pub walk-skip : (a place : ℕ) → r ≡ Skip a place → Going settled mask closed convention back pace seed exit room o work marks n (k + 1) a
       unfolding told then onTurn Learnt
-      walk-skip a e =
+      walk-skip a place e =
           let l : Learnt mask closed convention day r = t .learnt in
           record {
             begun = g .begun;
@@ -89,7 +89,7 @@ module _ {settled : Bool} {mask : ℕ} {closed : List ℕ} {convention : Convent
             same = rw (add-one k) (rw e at opened);
           }
 
-      module _ (d b : ℕ) (e : r ≡ Keep d b) (f : Filled) (work′ marks′ : List ℕ) (filled-so : Part room n work marks → Filling back room (put room d 1 (held back n work marks)) f work′ marks′) where
+      module _ (d b place : ℕ) (e : r ≡ Keep d b place) (f : Filled) (work′ marks′ : List ℕ) (filled-so : Part room n work marks → Filling back room (put room d 1 (held back n work marks)) f work′ marks′) where
         p : Filling back room (put room d 1 (held back n work marks)) f work′ marks′
         p = filled-so (g .begun .part)
 

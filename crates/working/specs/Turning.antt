@@ -22,15 +22,15 @@ pub record Front (mask : ℕ) (closed : List ℕ) (convention : Convention) (fro
 -- ---- a turn
 unfoldable pub told : Turn → Answer steps.Turn
 told Past = given steps.past
-told (Skip front) = given steps.skip
-told (Keep day front) = given (steps.keep day)
+told (Skip front place) = given steps.skip
+told (Keep day front place) = given (steps.keep day)
 told (Stop n) = refused n
 
 -- what is known then of the newest date
 unfoldable pub Learnt : ℕ → List ℕ → Convention → ℕ → Turn → Type 0
 Learnt mask closed convention newest Past = Unit {0}
-Learnt mask closed convention newest (Skip front) = Front mask closed convention front newest
-Learnt mask closed convention newest (Keep day front) = Front mask closed convention front day
+Learnt mask closed convention newest (Skip front place) = Front mask closed convention front newest
+Learnt mask closed convention newest (Keep day front place) = Front mask closed convention front day
 Learnt mask closed convention newest (Stop n) = Unit {0}
 
 pub record Compared (mask : ℕ) (closed : List ℕ) (convention : Convention) (newest : ℕ) (o : Answer steps.Turn) (r : Turn) : Type 0 where

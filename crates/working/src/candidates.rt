@@ -11,6 +11,7 @@ ghost use Rattle.working.specs.Turning.{Front, Compared};
 ghost use Rattle.working.specs.Paces.{pace};
 use calendar::Convention;
 use calendar::search;
+use calendar::search::Placed;
 use date::Dated;
 use date::span;
 use period::Period;
@@ -20,11 +21,11 @@ use steps::Pace;
 use steps::Seed;
 
 // What a candidate does: it ends the loop, is skipped, is kept, or stops the build. A turn that goes on tells the adjusted
-// date of the newest date then kept.
+// date of the newest date then kept, and a place in the closed list to look from for the next candidate.
 pub(crate) enum Turn {
     Past,
-    Skip(u32),
-    Keep { day: u32, front: u32 },
+    Skip { front: u32, place: usize },
+    Keep { day: u32, front: u32, place: usize },
     Stop(u8),
 }
 
@@ -89,6 +90,7 @@ fn compare(
     day: u32,
     newest: u32,
     front: u32,
+    guess: usize,
     convention: Convention,
     mask: u8,
     closed: &[u32],
@@ -105,20 +107,25 @@ fn compare(
             }
         }
     }
-    let moved = search::adjust(day, convention, mask, closed);
+    let moved = search::adjust_near(day, guess, convention, mask, closed);
     match moved {
-        Dated::Refused(n) => Turn::Stop(n),
-        Dated::Day(b) => {
-            if held == b.day {
-                return Turn::Skip(held);
+        Placed::Refused(n) => Turn::Stop(n),
+        Placed::Day { day: b, place } => {
+            if held == b {
+                return Turn::Skip { front: held, place };
             }
             if settled {
                 return Turn::Keep {
-                    day: b.day,
-                    front: b.day,
+                    day: b,
+                    front: b,
+                    place,
                 };
             }
-            Turn::Keep { day, front: b.day }
+            Turn::Keep {
+                day,
+                front: b,
+                place,
+            }
         }
     }
 }
@@ -135,6 +142,7 @@ pub(crate) fn try_candidate(
     closed: &[u32],
     newest: u32,
     front: u32,
+    guess: usize,
     k: u32,
 ) -> Turn
     ensures { λ r. ⌜ (closedOk (now (closed .entry)) ≡ true → Front mask (now (closed .entry)) convention front newest → Compared mask (now (closed .entry)) convention newest (turnKept settled mask (now (closed .entry)) convention back pace seed exit newest k) r) ⌝ }
@@ -146,7 +154,16 @@ pub(crate) fn try_candidate(
             if is_past(back, exit, d.day) {
                 return Turn::Past;
             }
-            compare(settled, d.day, newest, front, convention, mask, closed)
+            compare(
+                settled,
+                d.day,
+                newest,
+                front,
+                guess,
+                convention,
+                mask,
+                closed,
+            )
         }
     }
 }

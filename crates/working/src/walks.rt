@@ -40,6 +40,7 @@ pub fn walk(
     let mut n = start;
     let mut k: u32 = 1;
     let mut front: u32 = 0;
+    let mut guess = 0;
     let mut newest = lists::newest(back, n, work);
     while k <= 876216 {
         let t = candidates::try_candidate(
@@ -53,6 +54,7 @@ pub fn walk(
             closed,
             newest,
             front,
+            guess,
             k,
         );
         match t {
@@ -62,11 +64,16 @@ pub fn walk(
             Turn::Past => {
                 return Walked::Ready { n, tries: k, front };
             }
-            Turn::Skip(a) => {
+            Turn::Skip { front: a, place } => {
                 front = a;
+                guess = place;
                 k += 1;
             }
-            Turn::Keep { day, front: b } => {
+            Turn::Keep {
+                day,
+                front: b,
+                place,
+            } => {
                 let put = lists::put(back, n, room, day, 1, work, marks);
                 match put {
                     Filled::Refused(r) => {
@@ -76,6 +83,7 @@ pub fn walk(
                         n = m;
                         newest = day;
                         front = b;
+                        guess = place;
                         k += 1;
                     }
                 }

@@ -7,11 +7,6 @@ use Rattle.calendar.specs.Stays.{open-stays}
 use borrow.Author.Needs.{needs}
 use Rattle.calendar.proofs.search.adjust.Statement.{statement}
 use Rattle.calendar.proofs.search.adjust.Tie as tie
-use Rattle.calendar.proofs.search.adjust.Reads as reads
-use Rattle.calendar.proofs.search.adjust.Lts as lts
-use Rattle.calendar.proofs.search.is_open.Reads as is-open-reads
-use Rattle.calendar.proofs.search.searched.Reads as searched-reads
-use Rattle.date.proofs.span.within.Reads as within-reads
 
 enum-told : tie.Need-enum-told
 enum-told c = search needs
@@ -19,17 +14,20 @@ enum-told c = search needs
 within-requires : tie.Need-within-requires
 within-requires c κs = search needs
 
-is-open-requires : tie.Need-is-open-requires
-is-open-requires c κs = search needs
+lower-bound-requires : tie.Need-lower-bound-requires
+lower-bound-requires c κs = search needs
+
+is-open-at-requires : tie.Need-is-open-at-requires
+is-open-at-requires c κs = search needs
 
 within-requires-2 : tie.Need-within-requires-2
 within-requires-2 c κs = search needs
 
 returns : tie.Need-returns
-returns c = λ ok. c .within2 .ensures ∙ sym (open-stays _ _ _ (sym (c .before .before .is-open .ensures ok) ∙ c .before .if1 .taken) _)
+returns c = λ ok. c .within2 .ensures ∙ sym (open-stays _ _ _ (sym (c .before .before .is-open-at .ensures ok) ∙ c .before .if1 .taken) _)
 
-searched-requires : tie.Need-searched-requires
-searched-requires c κs = search needs
+search-from-requires : tie.Need-search-from-requires
+search-from-requires c κs = search needs
 
 returns-2 : tie.Need-returns-2
 unfolding adjusted byConvention
@@ -44,9 +42,10 @@ adjust-spec =
     (tie.spec
     enum-told
     within-requires
-    is-open-requires
+    lower-bound-requires
+    is-open-at-requires
     within-requires-2
     returns
-    searched-requires
+    search-from-requires
     returns-2
     returns-3)

@@ -9,19 +9,19 @@ use Rattle.calendar.proofs.search.ahead.Statement.{statement}
 use Rattle.calendar.proofs.search.ahead.Tie as tie
 
 abbrev Inv-scan : tie.InvT-scan
-Inv-scan day mask closed at₀ d left here at = Scan false closed here at
+Inv-scan place day mask closed at₀ d left weekday here shut at = Scan false closed here at
 
 abbrev μ-scan : tie.MeasureT-scan
-μ-scan day mask closed at₀ d left here at = length closed - at
+μ-scan place day mask closed at₀ d left weekday here shut at = length closed - at
 
 abbrev Inv-days : tie.InvT-days
-Inv-days day mask closed at₀ d₀ left₀ at d left = Days false mask closed day d left at
+Inv-days place day mask closed at₀ d₀ left₀ weekday₀ at d left weekday = Days false mask closed day d left at weekday
 
 abbrev μ-days : tie.MeasureT-days
-μ-days day mask closed at₀ d₀ left₀ at d left = left
+μ-days place day mask closed at₀ d₀ left₀ weekday₀ at d left weekday = left
 
-lower-bound-requires : tie.Need-lower-bound-requires Inv-scan μ-scan Inv-days μ-days
-lower-bound-requires c κs = search ahead-rules
+weekday-of-requires : tie.Need-weekday-of-requires Inv-scan μ-scan Inv-days μ-days
+weekday-of-requires c κs = search ahead-rules
 
 days-holds : tie.Need-days-holds Inv-scan μ-scan Inv-days μ-days
 days-holds c = search ahead-rules
@@ -30,14 +30,17 @@ returns : tie.Need-returns Inv-scan μ-scan Inv-days μ-days
 unfolding dated
 returns c = search ahead-rules
 
+is-masked-requires : tie.Need-is-masked-requires Inv-scan μ-scan Inv-days μ-days
+is-masked-requires c κs = search ahead-rules
+
 add-d : tie.Need-add-d Inv-scan μ-scan Inv-days μ-days
 add-d c = search ahead-rules
 
 sub-left : tie.Need-sub-left Inv-scan μ-scan Inv-days μ-days
 sub-left c = search ahead-rules
 
-weekly-closed-requires : tie.Need-weekly-closed-requires Inv-scan μ-scan Inv-days μ-days
-weekly-closed-requires c κs = search ahead-rules
+weekday-after-requires : tie.Need-weekday-after-requires Inv-scan μ-scan Inv-days μ-days
+weekday-after-requires c κs = search ahead-rules
 
 days-less : tie.Need-days-less Inv-scan μ-scan Inv-days μ-days
 days-less c = search ahead-rules
@@ -85,12 +88,13 @@ ahead-spec =
     μ-scan
     Inv-days
     μ-days
-    lower-bound-requires
+    weekday-of-requires
     days-holds
     returns
+    is-masked-requires
     add-d
     sub-left
-    weekly-closed-requires
+    weekday-after-requires
     days-less
     days-again
     scan-holds

@@ -8,22 +8,22 @@ use Rattle.calendar.proofs.search.behind.Statement.{statement}
 use Rattle.calendar.proofs.search.behind.Tie as tie
 
 abbrev Inv-scan : tie.InvT-scan
-Inv-scan day mask closed at₀ d left here at = Scan true closed here at
+Inv-scan place day mask closed at₀ d left weekday here shut at = Scan true closed here at
 
 abbrev μ-scan : tie.MeasureT-scan
-μ-scan day mask closed at₀ d left here at = at
+μ-scan place day mask closed at₀ d left weekday here shut at = at
 
 abbrev Inv-days : tie.InvT-days
-Inv-days day mask closed at₀ d₀ left₀ at d left = Days true mask closed day d left at
+Inv-days place day mask closed at₀ d₀ left₀ weekday₀ at d left weekday = Days true mask closed day d left at weekday
 
 abbrev μ-days : tie.MeasureT-days
-μ-days day mask closed at₀ d₀ left₀ at d left = left
+μ-days place day mask closed at₀ d₀ left₀ weekday₀ at d left weekday = left
 
-add-lower-bound : tie.Need-add-lower-bound Inv-scan μ-scan Inv-days μ-days
-add-lower-bound c = search behind-rules
+place-after-requires : tie.Need-place-after-requires Inv-scan μ-scan Inv-days μ-days
+place-after-requires c κs = search behind-rules
 
-lower-bound-requires : tie.Need-lower-bound-requires Inv-scan μ-scan Inv-days μ-days
-lower-bound-requires c κs = search behind-rules
+weekday-of-requires : tie.Need-weekday-of-requires Inv-scan μ-scan Inv-days μ-days
+weekday-of-requires c κs = search behind-rules
 
 days-holds : tie.Need-days-holds Inv-scan μ-scan Inv-days μ-days
 days-holds c = search behind-rules
@@ -32,14 +32,17 @@ returns : tie.Need-returns Inv-scan μ-scan Inv-days μ-days
 unfolding dated
 returns c = search behind-rules
 
+is-masked-requires : tie.Need-is-masked-requires Inv-scan μ-scan Inv-days μ-days
+is-masked-requires c κs = search behind-rules
+
 sub-d : tie.Need-sub-d Inv-scan μ-scan Inv-days μ-days
 sub-d c = search behind-rules
 
 sub-left : tie.Need-sub-left Inv-scan μ-scan Inv-days μ-days
 sub-left c = search behind-rules
 
-weekly-closed-requires : tie.Need-weekly-closed-requires Inv-scan μ-scan Inv-days μ-days
-weekly-closed-requires c κs = search behind-rules
+weekday-before-requires : tie.Need-weekday-before-requires Inv-scan μ-scan Inv-days μ-days
+weekday-before-requires c κs = search behind-rules
 
 days-less : tie.Need-days-less Inv-scan μ-scan Inv-days μ-days
 days-less c = search behind-rules
@@ -90,13 +93,14 @@ behind-spec =
     μ-scan
     Inv-days
     μ-days
-    add-lower-bound
-    lower-bound-requires
+    place-after-requires
+    weekday-of-requires
     days-holds
     returns
+    is-masked-requires
     sub-d
     sub-left
-    weekly-closed-requires
+    weekday-before-requires
     days-less
     days-again
     scan-holds

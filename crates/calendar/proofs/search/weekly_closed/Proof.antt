@@ -1,26 +1,24 @@
 -- `calendar::search::weekly_closed` meets its contract.
 -- Assumes nothing.
-use mathlib.Core.Path.{refl}
+use Prim.Native.Nat.{ℕ, _/_, _%_, _^_}
+use mathlib.Core.Path.{ap, _∙_}
+use lib.Dec.{eqb}
 use Rattle.calendar.specs.Open.{weeklyClosed}
 use borrow.Author.Needs.{needs}
 use Rattle.calendar.proofs.search.weekly_closed.Statement.{statement}
 use Rattle.calendar.proofs.search.weekly_closed.Tie as tie
 
-add-weekday : tie.Need-add-weekday
-add-weekday c = search needs
+weekday-of-requires : tie.Need-weekday-of-requires
+weekday-of-requires c κs = search needs
 
-cast-weekday : tie.Need-cast-weekday
-cast-weekday c = search needs
-
-cast-result : tie.Need-cast-result
-cast-result c = search needs
-
-shr-result : tie.Need-shr-result
-shr-result c = search needs
+is-masked-requires : tie.Need-is-masked-requires
+is-masked-requires c κs = search needs
 
 returns : tie.Need-returns
 unfolding weeklyClosed
-returns c = refl
+returns c =
+    c .is-masked .ensures
+    ∙ ap (λ (k : ℕ). eqb (c .before .before .args .mask / 2 ^ k % 2) 1) (c .before .weekday-of .ensures)
 
 pub weekly-closed-spec : {M : Type 1} → statement M
-weekly-closed-spec = tie.close (tie.spec add-weekday cast-weekday cast-result shr-result returns)
+weekly-closed-spec = tie.close (tie.spec weekday-of-requires is-masked-requires returns)

@@ -9,6 +9,7 @@ use Rattle.refusal.specs.Answer.{given}
 use Rattle.date.specs.Made.{given-day}
 use Rattle.calendar.specs.Open.{closedOk}
 use Rattle.calendar.specs.Adjust.{adjusted}
+use Rattle.calendar.specs.Told.{placed-day, placed-refused}
 use Rattle.working.specs.Turning.{Front}
 use Rattle.working.proofs.Turns.{compare-stop, compare-closed, compare-skip, compare-settle, compare-keep}
 use borrow.Author.Needs.{needs}
@@ -17,6 +18,7 @@ use Rattle.working.proofs.candidates.compare.Tie as tie
 use Rattle.working.proofs.candidates.compare.Reads as reads
 use Rattle.working.proofs.candidates.compare.Lts as lts
 use Rattle.calendar.proofs.search.adjust.Reads as adjust-reads
+use Rattle.calendar.proofs.search.adjust_near.Reads as adjust-near-reads
 
 -- what is held is the newest date's adjusted date, found or known
 known : (j : tie.Joined1) →
@@ -43,8 +45,8 @@ returns c =
 enum-known-found-2 : tie.Need-enum-known-found-2
 enum-known-found-2 c = search needs
 
-adjust-requires-2 : tie.Need-adjust-requires-2
-adjust-requires-2 c κs = search needs
+adjust-near-requires : tie.Need-adjust-near-requires
+adjust-near-requires c κs = search needs
 
 enum-known-moved : tie.Need-enum-known-moved
 enum-known-moved c = search needs
@@ -54,23 +56,26 @@ enum-known-moved-2 c = search needs
 
 returns-2 : tie.Need-returns-2
 returns-2 c =
-    let m = c .before .before .before .before .before in
-    λ ok f. compare-skip _ _ _ _ _ _ _ (known (m .before) ok f) (m .adjust2 .result) (m .adjust2 .ensures ok) (c .before .before .before .moved2 .given .0 .0) (c .before .before .before .moved2 .given .1) (c .if2 .taken)
+    let m = c .before .before .before .before in
+    let b = c .before .before .moved2 .given in
+    λ ok f. compare-skip _ _ _ _ _ _ _ (known (m .before) ok f) _ _ (placed-day _ _ (m .adjust-near .ensures ok) _ _ (b .1)) (c .if2 .taken)
 
 returns-3 : tie.Need-returns-3
 returns-3 c =
-    let m = c .before .before .before .before .before .before in
-    λ ok f. compare-settle _ _ _ _ _ _ _ (known (m .before) ok f) (m .adjust2 .result) (m .adjust2 .ensures ok) (c .before .before .before .before .moved2 .given .0 .0) (c .before .before .before .before .moved2 .given .1) (c .before .if2 .left) (c .if3 .taken)
+    let m = c .before .before .before .before .before in
+    let b = c .before .before .before .moved2 .given in
+    λ ok f. compare-settle _ _ _ _ _ _ _ (known (m .before) ok f) _ _ (placed-day _ _ (m .adjust-near .ensures ok) _ _ (b .1)) (c .before .if2 .left) (c .if3 .taken)
 
 returns-4 : tie.Need-returns-4
 returns-4 c =
     let m = c .before .before .before in
-    λ ok f. compare-closed _ _ _ _ _ _ _ (known (m .before) ok f) (m .adjust2 .result) (m .adjust2 .ensures ok) (c .before .moved .given .0 .0) (c .before .moved .given .1)
+    λ ok f. compare-closed _ _ _ _ _ _ _ (known (m .before) ok f) _ (placed-refused _ _ (m .adjust-near .ensures ok) _ (c .before .moved .given .1))
 
 returns-5 : tie.Need-returns-5
 returns-5 c =
-    let m = c .before .before .before .before .before .before in
-    λ ok f. compare-keep _ _ _ _ _ _ _ (known (m .before) ok f) (m .adjust2 .result) (m .adjust2 .ensures ok) (c .before .before .before .before .moved2 .given .0 .0) (c .before .before .before .before .moved2 .given .1) (c .before .if2 .left) (c .if3 .left)
+    let m = c .before .before .before .before .before in
+    let b = c .before .before .before .moved2 .given in
+    λ ok f. compare-keep _ _ _ _ _ _ _ (known (m .before) ok f) _ _ (placed-day _ _ (m .adjust-near .ensures ok) _ _ (b .1)) (c .before .if2 .left) (c .if3 .left)
 
 pub compare-spec : {M : Type 1} → statement M
 compare-spec =
@@ -80,7 +85,7 @@ compare-spec =
     enum-known-found
     returns
     enum-known-found-2
-    adjust-requires-2
+    adjust-near-requires
     enum-known-moved
     enum-known-moved-2
     returns-2

@@ -17,11 +17,11 @@ use Rattle.working.proofs.lists.newest.Reads as newest-reads
 use Rattle.working.proofs.lists.put.Reads as put-reads
 
 abbrev Inv-loop : tie.InvT-loop
-Inv-loop settled back pace seed exit mask closed start room work₀ marks₀ way n₀ k₀ front₀ day₀ work marks n k front day =
+Inv-loop settled back pace seed exit mask closed start room work₀ marks₀ way n₀ k₀ front₀ guess₀ day₀ work marks n k front guess day =
     (k ≤ 876217) × (length work ≡ length work₀) × (length marks ≡ length marks₀) × (Begun closed room start work₀ marks₀ → Going settled mask closed way back pace seed exit room (walk (turnKept settled mask closed way back pace seed exit) room 876216 1 (held back start work₀ marks₀)) work marks n k front) × (Begun closed room start work₀ marks₀ → length work ≡ 4096 → n < 4097 → day ≡ newest (held back n work work))
 
 abbrev μ-loop : tie.MeasureT-loop
-μ-loop settled back pace seed exit mask closed start room work₀ marks₀ way n₀ k₀ front₀ day₀ work marks n k front day =
+μ-loop settled back pace seed exit mask closed start room work₀ marks₀ way n₀ k₀ front₀ guess₀ day₀ work marks n k front guess day =
     876217 - k
 
 loop-holds : tie.Need-loop-holds Inv-loop μ-loop
@@ -85,7 +85,7 @@ loop-again c =
       omega (arith, l .loop-test .taken),
       i .1,
       i .2,
-      λ b. walk-skip (i .3 b) (l .loop-test .taken) _ (i .4 b) _ (t .try-candidate .ensures) (c .before .t2 .given .0 .0) (c .before .t2 .given .1),
+      λ b. walk-skip (i .3 b) (l .loop-test .taken) _ (i .4 b) _ (t .try-candidate .ensures) _ _ (c .before .t2 .given .1),
       i .4,
     )
 
@@ -111,7 +111,7 @@ returns-3 c = λ b.
     let t = k .before .before in
     let l = t .before in
     let way = l .before .before .before .before in
-    walk-alike _ _ _ _ (way .convention-on .ensures) _ _ _ _ _ _ _ _ _ _ _ _ (walk-full (l .before .loop .inv .3 b) (l .loop-test .taken) _ (l .before .loop .inv .4 b) _ (t .try-candidate .ensures) (k .t3 .given .0 .0) (k .t3 .given .0 .1 .0) (k .t3 .given .1) _ _ _ (p .put .ensures) (c .before .put2 .given .0 .0) (c .before .put2 .given .1))
+    walk-alike _ _ _ _ (way .convention-on .ensures) _ _ _ _ _ _ _ _ _ _ _ _ (walk-full (l .before .loop .inv .3 b) (l .loop-test .taken) _ (l .before .loop .inv .4 b) _ (t .try-candidate .ensures) _ _ _ (k .t3 .given .1) _ _ _ (p .put .ensures) (c .before .put2 .given .0 .0) (c .before .put2 .given .1))
 
 enum-known-put-2 : tie.Need-enum-known-put-2 Inv-loop μ-loop
 enum-known-put-2 c = search needs
@@ -132,8 +132,8 @@ loop-again-2 c =
       omega (arith, l .loop-test .taken),
       c .before .before .before .before .before .before .work .given ∙ i .1,
       c .before .before .before .before .marks .given ∙ i .2,
-      λ b. walk-keep (i .3 b) (l .loop-test .taken) _ (i .4 b) _ (t .try-candidate .ensures) (k .t3 .given .0 .0) (k .t3 .given .0 .1 .0) (k .t3 .given .1) _ _ _ (p .put .ensures) (c .before .put3 .given .0 .0) (c .before .put3 .given .1),
-      λ b _ _. walk-newest (i .3 b) (l .loop-test .taken) _ (i .4 b) _ (t .try-candidate .ensures) (k .t3 .given .0 .0) (k .t3 .given .0 .1 .0) (k .t3 .given .1) _ _ _ (p .put .ensures) (c .before .put3 .given .0 .0) (c .before .put3 .given .1),
+      λ b. walk-keep (i .3 b) (l .loop-test .taken) _ (i .4 b) _ (t .try-candidate .ensures) _ _ _ (k .t3 .given .1) _ _ _ (p .put .ensures) (c .before .put3 .given .0 .0) (c .before .put3 .given .1),
+      λ b _ _. walk-newest (i .3 b) (l .loop-test .taken) _ (i .4 b) _ (t .try-candidate .ensures) _ _ _ (k .t3 .given .1) _ _ _ (p .put .ensures) (c .before .put3 .given .0 .0) (c .before .put3 .given .1),
     )
 
 same-length-7 : tie.Need-same-length-7 Inv-loop μ-loop

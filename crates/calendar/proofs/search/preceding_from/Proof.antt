@@ -1,19 +1,22 @@
--- `calendar::search::following` meets its contract.
+-- `calendar::search::preceding_from` meets its contract.
 -- Assumes nothing.
 use Rattle.refusal.specs.Laws.{failed}
 use Rattle.date.specs.Date.{dated}
 use Rattle.calendar.specs.Adjust.{adjusted, byConvention}
 use Rattle.calendar.proofs.Ways.{span-from, span-to, look-day, look-refused}
 use borrow.Author.Needs.{needs}
-use Rattle.calendar.proofs.search.following.Statement.{statement}
-use Rattle.calendar.proofs.search.following.Tie as tie
+use Rattle.calendar.proofs.search.preceding_from.Statement.{statement}
+use Rattle.calendar.proofs.search.preceding_from.Tie as tie
 
 in-span-requires : tie.Need-in-span-requires
 in-span-requires c κs = search needs
 
-ahead-requires : tie.Need-ahead-requires
-ahead-requires c κs =
-    (span-from _ _ (c .before .in-span .ensures) (c .if1 .taken), span-to _ _ (c .before .in-span .ensures) (c .if1 .taken))
+behind-requires : tie.Need-behind-requires
+behind-requires c κs = (
+  span-from _ _ (c .before .in-span .ensures) (c .if1 .taken),
+  span-to _ _ (c .before .in-span .ensures) (c .if1 .taken),
+  c .before .before .before .pre,
+)
 
 enum-known-first : tie.Need-enum-known-first
 enum-known-first c = search needs
@@ -27,7 +30,7 @@ within-requires c κs = search needs
 returns : tie.Need-returns
 unfolding adjusted byConvention
 returns c =
-    let first = c .before .before .before .before .before .ahead in
+    let first = c .before .before .before .before .before .behind in
     let span = c .before .before .before .before .before .before .before .in-span in
     let in-it = c .before .before .before .before .before .before .if1 in
     λ ok. look-day _ _ _ _ (first .result) (c .before .before .before .first .given .0 .0) _ _ (span .ensures) (in-it .taken) (first .ensures ok) (cc) (c .within .ensures)
@@ -38,7 +41,7 @@ enum-known-first-2 c = search needs
 returns-2 : tie.Need-returns-2
 unfolding dated adjusted byConvention
 returns-2 c =
-    let first = c .before .before .before .ahead in
+    let first = c .before .before .before .behind in
     let span = c .before .before .before .before .before .in-span in
     let in-it = c .before .before .before .before .if1 in
     λ ok. look-refused _ _ _ _ (first .result) (c .before .first2 .given .0 .0) _ (span .ensures) (in-it .taken) (first .ensures ok) cc
@@ -47,12 +50,12 @@ returns-3 : tie.Need-returns-3
 unfolding dated adjusted
 returns-3 c = λ ok. failed _ _ _ _ (c .before .in-span .ensures) (c .if1 .left)
 
-pub following-spec : {M : Type 1} → statement M
-following-spec =
+pub preceding-from-spec : {M : Type 1} → statement M
+preceding-from-spec =
     tie.close
     (tie.spec
     in-span-requires
-    ahead-requires
+    behind-requires
     enum-known-first
     cast-within
     within-requires

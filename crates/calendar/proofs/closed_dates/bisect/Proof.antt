@@ -1,15 +1,17 @@
--- `calendar::closed_dates::lower_bound` meets its contract.
+-- `calendar::closed_dates::bisect` meets its contract.
 -- Assumes nothing.
 use Prim.Native.Nat.{_-_}
-use Rattle.calendar.proofs.Places.{Bracket, places}
-use Rattle.calendar.proofs.closed_dates.lower_bound.Statement.{statement}
-use Rattle.calendar.proofs.closed_dates.lower_bound.Tie as tie
+use native.Mathlib.Omega.{arith}
+use Rattle.calendar.specs.Places.{Bracket}
+use Rattle.calendar.proofs.Places.{bracket-up, bracket-down, places}
+use Rattle.calendar.proofs.closed_dates.bisect.Statement.{statement}
+use Rattle.calendar.proofs.closed_dates.bisect.Tie as tie
 
 abbrev Inv-loop : tie.InvT-loop
-Inv-loop closed x lo₀ hi₀ lo hi = Bracket closed x lo hi
+Inv-loop closed x from to lo₀ hi₀ lo hi = Bracket closed x lo hi
 
 abbrev μ-loop : tie.MeasureT-loop
-μ-loop closed x lo₀ hi₀ lo hi = hi - lo
+μ-loop closed x from to lo₀ hi₀ lo hi = hi - lo
 
 loop-holds : tie.Need-loop-holds Inv-loop μ-loop
 loop-holds c = search places
@@ -33,19 +35,19 @@ loop-less : tie.Need-loop-less Inv-loop μ-loop
 loop-less c = search places
 
 loop-again : tie.Need-loop-again Inv-loop μ-loop
-loop-again c = search places
+loop-again c = bracket-up (c .before .before .before .loop .inv) (omega arith) (omega arith) (c .if1 .taken)
 
 loop-less-2 : tie.Need-loop-less-2 Inv-loop μ-loop
 loop-less-2 c = search places
 
 loop-again-2 : tie.Need-loop-again-2 Inv-loop μ-loop
-loop-again-2 c = search places
+loop-again-2 c = bracket-down (c .before .before .before .loop .inv) (omega arith) (omega arith) (c .if1 .left)
 
 returns : tie.Need-returns Inv-loop μ-loop
 returns c = search places
 
-pub lower-bound-spec : {M : Type 1} → statement M
-lower-bound-spec =
+pub bisect-spec : {M : Type 1} → statement M
+bisect-spec =
     tie.close
     (tie.spec
     Inv-loop

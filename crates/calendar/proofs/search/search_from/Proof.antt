@@ -1,11 +1,11 @@
--- `calendar::search::searched` meets its contract.
+-- `calendar::search::search_from` meets its contract.
 -- Assumes nothing.
 use mathlib.Core.Path.{_∙_}
 use Rattle.calendar.specs.Adjust.{adjusted, byConvention}
 use Rattle.calendar.specs.Search.{span-need}
 use borrow.Author.Needs.{needs}
-use Rattle.calendar.proofs.search.searched.Statement.{statement}
-use Rattle.calendar.proofs.search.searched.Tie as tie
+use Rattle.calendar.proofs.search.search_from.Statement.{statement}
+use Rattle.calendar.proofs.search.search_from.Tie as tie
 
 enum-told : tie.Need-enum-told
 enum-told c = search needs
@@ -16,8 +16,8 @@ within-requires c κs = search needs
 enum-told-2 : tie.Need-enum-told-2
 enum-told-2 c = search needs
 
-following-requires : tie.Need-following-requires
-following-requires c κs = search needs
+following-from-requires : tie.Need-following-from-requires
+following-from-requires c κs = search needs
 
 enum-told-3 : tie.Need-enum-told-3
 enum-told-3 c = search needs
@@ -28,8 +28,8 @@ modified-following-requires c κs = search needs
 enum-told-4 : tie.Need-enum-told-4
 enum-told-4 c = search needs
 
-preceding-requires : tie.Need-preceding-requires
-preceding-requires c κs = search needs
+preceding-from-requires : tie.Need-preceding-from-requires
+preceding-from-requires c κs = search needs
 
 enum-told-5 : tie.Need-enum-told-5
 enum-told-5 c = search needs
@@ -42,29 +42,29 @@ unfolding adjusted byConvention
 returns c = λ ok. rw (c .before .enum-told .given .1) (c .within .ensures ∙ span-need _)
 
 returns-2 : tie.Need-returns-2
-returns-2 c = λ ok. rw (c .before .enum-told2 .given .1) (c .following .ensures ok)
+returns-2 c = λ ok. rw (c .before .enum-told2 .given .1) (c .following-from .ensures ok)
 
 returns-3 : tie.Need-returns-3
 returns-3 c = λ ok. rw (c .before .enum-told3 .given .1) (c .modified-following .ensures ok)
 
 returns-4 : tie.Need-returns-4
-returns-4 c = λ ok. rw (c .before .enum-told4 .given .1) (c .preceding .ensures ok)
+returns-4 c = λ ok. rw (c .before .enum-told4 .given .1) (c .preceding-from .ensures ok)
 
 returns-5 : tie.Need-returns-5
 returns-5 c = λ ok. rw (c .before .enum-told5 .given .1) (c .modified-preceding .ensures ok)
 
-pub searched-spec : {M : Type 1} → statement M
-searched-spec =
+pub search-from-spec : {M : Type 1} → statement M
+search-from-spec =
     tie.close
     (tie.spec
     enum-told
     within-requires
     enum-told-2
-    following-requires
+    following-from-requires
     enum-told-3
     modified-following-requires
     enum-told-4
-    preceding-requires
+    preceding-from-requires
     enum-told-5
     modified-preceding-requires
     returns

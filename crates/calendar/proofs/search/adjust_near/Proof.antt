@@ -1,0 +1,65 @@
+-- `calendar::search::adjust_near` meets its contract.
+-- Assumes nothing.
+use mathlib.Core.Path.{sym, _∙_}
+use Rattle.calendar.specs.Adjust.{adjusted, byConvention}
+use Rattle.calendar.specs.Search.{span-need}
+use Rattle.calendar.specs.Stays.{open-stays}
+use borrow.Author.Needs.{needs}
+use Rattle.calendar.proofs.search.adjust_near.Statement.{statement}
+use Rattle.calendar.proofs.search.adjust_near.Tie as tie
+
+enum-told : tie.Need-enum-told
+enum-told c = search needs
+
+within-requires : tie.Need-within-requires
+within-requires c κs = search needs
+
+with-place-requires : tie.Need-with-place-requires
+with-place-requires c κs = search needs
+
+place-near-requires : tie.Need-place-near-requires
+place-near-requires c κs = search needs
+
+is-open-at-requires : tie.Need-is-open-at-requires
+is-open-at-requires c κs = search needs
+
+within-requires-2 : tie.Need-within-requires-2
+within-requires-2 c κs = search needs
+
+with-place-requires-2 : tie.Need-with-place-requires-2
+with-place-requires-2 c κs = search needs
+
+returns : tie.Need-returns
+returns c =
+    let o = c .before .before in
+    λ ok. c .with-place2 .ensures ∙ c .before .within2 .ensures ∙ sym (open-stays _ _ _ (sym (o .before .is-open-at .ensures ok) ∙ o .if1 .taken) _)
+
+search-from-requires : tie.Need-search-from-requires
+search-from-requires c κs = search needs
+
+with-place-requires-3 : tie.Need-with-place-requires-3
+with-place-requires-3 c κs = search needs
+
+returns-2 : tie.Need-returns-2
+unfolding adjusted byConvention
+returns-2 c = λ ok. rw (c .before .before .enum-told .given .1) (c .with-place .ensures ∙ c .before .within .ensures ∙ span-need _)
+
+returns-3 : tie.Need-returns-3
+returns-3 c = λ ok. c .with-place3 .ensures ∙ c .before .search-from .ensures ok
+
+pub adjust-near-spec : {M : Type 1} → statement M
+adjust-near-spec =
+    tie.close
+    (tie.spec
+    enum-told
+    within-requires
+    with-place-requires
+    place-near-requires
+    is-open-at-requires
+    within-requires-2
+    with-place-requires-2
+    returns
+    search-from-requires
+    with-place-requires-3
+    returns-2
+    returns-3)
