@@ -258,18 +258,6 @@ fn search_from(place: usize, day: u32, convention: Convention, mask: u8, closed:
     }
 }
 
-pub fn following(day: u32, mask: u8, closed: &[u32]) -> Dated
-    ensures { λ r. ⌜ (closedOk (now (closed .entry)) ≡ true → dated r ≡ adjusted mask (now (closed .entry)) Following day) ⌝ }
-{
-    following_from(closed_dates::lower_bound(closed, day), day, mask, closed)
-}
-
-pub fn preceding(day: u32, mask: u8, closed: &[u32]) -> Dated
-    ensures { λ r. ⌜ (closedOk (now (closed .entry)) ≡ true → dated r ≡ adjusted mask (now (closed .entry)) Preceding day) ⌝ }
-{
-    preceding_from(closed_dates::lower_bound(closed, day), day, mask, closed)
-}
-
 fn searched(day: u32, convention: Convention, mask: u8, closed: &[u32]) -> Dated
     ensures { λ r. ⌜ (closedOk (now (closed .entry)) ≡ true → dated r ≡ adjusted mask (now (closed .entry)) convention day) ⌝ }
 {
@@ -344,10 +332,11 @@ pub fn convention_on(convention: Convention, mask: u8, closed: &[u32]) -> Conven
 fn toward(day: u32, back: bool, mask: u8, closed: &[u32]) -> Dated
     ensures { λ r. ⌜ (closedOk (now (closed .entry)) ≡ true → dated r ≡ adjusted mask (now (closed .entry)) (towards back) day) ⌝ }
 {
+    let place = closed_dates::lower_bound(closed, day);
     if back {
-        return preceding(day, mask, closed);
+        return preceding_from(place, day, mask, closed);
     }
-    following(day, mask, closed)
+    following_from(place, day, mask, closed)
 }
 
 // The calendar's month end: the last open day of the month, looked for from its last day.

@@ -5,19 +5,23 @@ use borrow.Author.Needs.{needs}
 use Rattle.calendar.proofs.search.toward.Statement.{statement}
 use Rattle.calendar.proofs.search.toward.Tie as tie
 
-preceding-requires : tie.Need-preceding-requires
-preceding-requires c κs = search needs
+lower-bound-requires : tie.Need-lower-bound-requires
+lower-bound-requires c κs = search needs
+
+preceding-from-requires : tie.Need-preceding-from-requires
+preceding-from-requires c κs = search needs
 
 returns : tie.Need-returns
 unfolding towards
-returns c = λ ok. rw (c .before .if1 .taken) (c .preceding .ensures ok)
+returns c = λ ok. rw (c .before .if1 .taken) (c .preceding-from .ensures ok)
 
-following-requires : tie.Need-following-requires
-following-requires c κs = search needs
+following-from-requires : tie.Need-following-from-requires
+following-from-requires c κs = search needs
 
 returns-2 : tie.Need-returns-2
 unfolding towards
-returns-2 c = λ ok. rw (c .before .if1 .left) (c .following .ensures ok)
+returns-2 c = λ ok. rw (c .before .if1 .left) (c .following-from .ensures ok)
 
 pub toward-spec : {M : Type 1} → statement M
-toward-spec = tie.close (tie.spec preceding-requires returns following-requires returns-2)
+toward-spec =
+    tie.close (tie.spec lower-bound-requires preceding-from-requires returns following-from-requires returns-2)
