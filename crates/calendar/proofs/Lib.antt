@@ -2,5 +2,5 @@ pub mod Checks
 pub mod Places
 pub mod Members
 pub mod Days
-pub mod Ways
 pub mod OneMonth
+pub mod Ways

@@ -3,6 +3,8 @@
 use Prim.Native.Nat.{ℕ, _+_, _-_, _*_, _≤_, _<_}
 use mathlib.Core.Path.{_≡_, refl, sym, ap, _∙_}
 use mathlib.Core.Bool.{Bool, true, false}
+use mathlib.Core.Logic.{⊎-elim}
+use native.Mathlib.Nat.{eq-or-lt-of-le}
 use native.Mathlib.Omega.{arith}
 use lib.Dec.{eqb, ltb}
 use borrow.Author.Tests.{ltb-true, ltb-false, eqb-true, eqb-false, eq-eqb, ne-eqb}
@@ -11,6 +13,7 @@ use Rattle.date.specs.Civil.{dayNumber, fieldsOf}
 use Rattle.date.specs.Date.{monthIndex}
 use Rattle.date.specs.Round.{Valid, fields-of-day, day-of-fields, fields-valid}
 use Rattle.calendar.specs.Adjust.{sameMonth}
+use Rattle.calendar.specs.Near.{OneMonth}
 
 -- two days of a month are as far apart as their numbers in it
 apart : (y m d e : ℕ) → dayNumber y m d + e ≡ dayNumber y m e + d
@@ -50,6 +53,41 @@ module _ (a b : ℕ) (one : 1 ≤ a) (later : a < b) where
 -- what the fields of the later day tell
 pub begun : (f : Fields) (a b : ℕ) → f ≡ fieldsOf b → a < b → 1 ≤ a → ltb (b - a) (f .day) ≡ sameMonth a b
 begun f a b e l one = ap (λ (x : Fields). ltb (b - a) (x .day)) e ∙ decide a b one l (ltb (b - a) (fieldsOf b .day)) refl
+
+-- ---- a month's first day, told by the fields of a day of the month
+day-within : (b : ℕ) → 1 ≤ b → fieldsOf b .day ≤ b
+unfolding dayNumber
+day-within b one = omega (arith, day-of-fields b one)
+
+pub start-fits : (f : Fields) (b : ℕ) → f ≡ fieldsOf b → 1 ≤ f .day
+start-fits f b e = rw e (fields-valid b .first)
+
+pub no-start : (f : Fields) (b r : ℕ) → f ≡ fieldsOf b → b < f .day → 1 ≤ b → r ≡ b + 1 - fieldsOf b .day
+no-start f b r e h one =
+    let g : b < fieldsOf b .day = rw e at h in
+    let bad : ⊥ = omega (arith, day-within b one) in
+    absurd bad
+
+pub start-is : (f : Fields) (b : ℕ) → f ≡ fieldsOf b → f .day ≤ b → b - f .day + 1 ≡ b + 1 - fieldsOf b .day
+start-is f b e h = let d : f .day ≡ fieldsOf b .day = ap (λ (x : Fields). x .day) e in omega (arith, start-fits f b e)
+
+module _ (b s : ℕ) (one : 1 ≤ b) (start : s ≡ b + 1 - fieldsOf b .day) where
+  in-month : (a : ℕ) → s ≤ a → a ≤ b → monthIndex a ≡ monthIndex b
+  in-month a l h =
+      ⊎-elim
+      (λ (q : a ≡ b). ap monthIndex q)
+      (λ (q : a < b). same-if-near a b (omega (arith, day-within b one)) q (omega (arith, day-within b one)))
+      (eq-or-lt-of-le h)
+
+  pub start-known : OneMonth s b
+  unfolding sameMonth
+  start-known = record { alike = λ x y l m h. eq-eqb _ _ (in-month x l (omega arith) ∙ sym (in-month y (omega arith) h)) }
+
+  -- a day before it lies in another month
+  pub start-left : (a : ℕ) → 1 ≤ a → a < s → sameMonth a b ≡ false
+  unfolding sameMonth
+  start-left a l h =
+      ne-eqb _ _ (λ q. let near = near-if-same a b l (omega (arith, fields-valid b .first)) q in let bad : ⊥ = omega (arith, day-within b one) in bad)
 
 -- either day may be the later one
 turned-go : (x y : ℕ) (t : Bool) → eqb x y ≡ t → t ≡ eqb y x

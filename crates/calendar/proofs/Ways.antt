@@ -1,8 +1,8 @@
 -- A law for each way through the functions over the search, in the code's terms.
 -- Assumes nothing.
-use Prim.Native.Nat.{ℕ, suc, _-_, _%_, _≤_, _<_}
+use Prim.Native.Nat.{ℕ, suc, _+_, _-_, _%_, _≤_, _<_}
 use mathlib.Core.Path.{_≡_, refl, ap, sym, _∙_}
-use mathlib.Core.Bool.{Bool, true, false, not}
+use mathlib.Core.Bool.{Bool, true, false, not, _&&_}
 use mathlib.Core.List.{List}
 use native.Mathlib.Omega.{arith}
 use lib.ListN.{length, getD}
@@ -18,15 +18,21 @@ use Rattle.period.specs.declared.Unit.{Unit}
 use Rattle.date.specs.declared.Date.{Date}
 use Rattle.date.specs.declared.Dated.{Dated}
 use Rattle.date.specs.declared.Dated.the-variants.{Day, Refused}
+use Rattle.date.specs.Civil.{fieldsOf}
 use Rattle.date.specs.Date.{dated, step, withinSpan}
 use Rattle.date.specs.Made.{given-day, refused-day}
 use Rattle.calendar.specs.declared.Convention.{Convention}
-use Rattle.calendar.specs.declared.Convention.the-variants.{Following}
+use Rattle.calendar.specs.declared.Convention.the-variants.{Following, ModifiedFollowing, Preceding}
+use Rattle.calendar.specs.declared.search.Near.{Near}
+use Rattle.calendar.specs.declared.search.Placed.{Placed}
+use Rattle.calendar.specs.declared.search.Placed.the-variants as placed-is
 use Rattle.calendar.specs.Open.{weeklyClosed, isOpen, closedOk, calendarOk}
 use Rattle.calendar.specs.Places.{LowerBound}
+use Rattle.calendar.specs.Near.{OneMonth, Known, Adjusts}
 use Rattle.calendar.specs.Adjust.{inSpan, firstOpen, found, sameMonth, unlessLeft, modified, byConvention, adjusted, towards, openSteps, advanced}
-use Rattle.calendar.specs.Calendar.{tenorOk}
-use Rattle.calendar.specs.Search.{span-need}
+use Rattle.calendar.specs.Calendar.{placed, tenorOk}
+use Rattle.calendar.specs.Search.{span-need, adjusted-first}
+use Rattle.calendar.proofs.OneMonth.{start-known, start-left}
 use Rattle.calendar.specs.Told.{ok-closed}
 use Rattle.calendar.proofs.Members.{present, between, above-from, above-end, shut-week, shut-listed, is-open}
 
@@ -129,6 +135,55 @@ module _ (mask : ℕ) (closed : List ℕ) (back : Bool) (day : ℕ) (first : Dat
     pub modified-refused : (n : ℕ) → first ≡ Refused n → refused n ≡ need BOOK (inSpan day) (modified mask closed back day)
     unfolding modified
     modified-refused n q = then-refused _ n _ (refused-day first n _ h q) ∙ sym (need-then BOOK (inSpan day) _ _)
+
+-- ---- Modified Following, where a month may be known
+not-before : (mask : ℕ) (closed : List ℕ) (day new : ℕ) → adjusted mask closed Following day ≡ given new → day ≤ new
+unfolding towards step
+not-before mask closed day new h = let f = adjusted-first mask closed false day new h in omega (arith, f .there)
+
+module _ (mask : ℕ) (closed : List ℕ) (day : ℕ) (first : Dated) (h : dated first ≡ adjusted mask closed Following day) where
+  pub follow-refused : (n : ℕ) → first ≡ Refused n → Adjusts mask closed ModifiedFollowing day (placed-is.Refused n)
+  unfolding placed Known adjusted byConvention
+  follow-refused n q = record { says = modified-refused mask closed false day first h n q; known = tt }
+
+  module _ (x : Date) (q : first ≡ Day x) where
+    on : adjusted mask closed Following day ≡ given (x .day)
+    on = given-day first x _ h q
+
+    first-one : 1 ≤ day
+    unfolding adjusted
+    first-one = span-one _ day refl (need-given BOOK (inSpan day) _ (x .day) on .0)
+
+    stays-in : sameMonth day (x .day) ≡ true → given (x .day) ≡ adjusted mask closed ModifiedFollowing day
+    unfolding adjusted byConvention
+    stays-in e = modified-kept mask closed false day first h x (sameMonth day (x .day)) q (λ a b. refl) e
+
+    pub follow-known : (near : Near) → OneMonth (near .from) (near .to) → (r : Bool) → r ≡ (leb (near .from) day && leb (x .day) (near .to)) → r ≡ true → Adjusts mask closed ModifiedFollowing day (placed-is.Day (x .day) near)
+    unfolding placed Known
+    follow-known near m r p e =
+        let t = both (leb (near .from) day) (leb (x .day) (near .to)) (sym p ∙ e) in
+        record {
+          says = stays-in (m .alike day (x .day) (leb-true (near .from) day (t .0)) (not-before mask closed day (x .day) on) (leb-true (x .day) (near .to) (t .1)));
+          known = m;
+        }
+
+    module _ (s : ℕ) (p : 1 ≤ x .day → s ≡ x .day + 1 - fieldsOf (x .day) .day) where
+      one : 1 ≤ x .day
+      one = following-one mask closed day (x .day) on
+
+      pub follow-split : (place : ℕ) → s ≤ day → Adjusts mask closed ModifiedFollowing day (placed-is.Day (x .day) (record { place = place; from = s; to = x .day }))
+      unfolding placed Known
+      follow-split place l =
+          let m = start-known (x .day) s one (p one) in
+          record { says = stays-in (m .alike day (x .day) l (not-before mask closed day (x .day) on) (omega arith)); known = m }
+
+      pub follow-left : (from to : ℕ) → OneMonth from to → day < s → (other : Dated) → dated other ≡ adjusted mask closed Preceding day → (r : Placed) → (placed r ≡ dated other) × (OneMonth from to → Known r) → Adjusts mask closed ModifiedFollowing day r
+      unfolding adjusted byConvention
+      follow-left from to m l other z r w =
+          record {
+            says = modified-left mask closed false day first h x (sameMonth day (x .day)) (placed r) q (λ a b. refl) (start-left (x .day) s one (p one) day first-one l) (w .0 ∙ z);
+            known = w .1 m;
+          }
 
 -- ---- the neighbouring day
 module _ (mask : ℕ) (closed : List ℕ) (convention : Convention) (n : ℕ) (beside : Dated) (h : dated beside ≡ withinSpan n) where

@@ -33,9 +33,9 @@ decided decided-is.Yes = given true
 decided decided-is.No = given false
 decided (decided-is.Refused n) = refused n
 
--- the adjusted date alone: the place beside it is a guess for the next day, and nothing is promised of it
+-- the adjusted date alone
 unfoldable pub placed : Placed → Answer ℕ
-placed (placed-is.Day day place) = given day
+placed (placed-is.Day day near) = given day
 placed (placed-is.Refused n) = refused n
 
 -- ---- the public functions

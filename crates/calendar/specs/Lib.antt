@@ -1,6 +1,7 @@
 pub mod Open
 pub mod Kept
 pub mod Mask
+pub mod Near
 pub mod Places
 pub mod Adjust
 pub mod Search

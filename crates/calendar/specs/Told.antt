@@ -11,6 +11,7 @@ use Rattle.calendar.specs.declared.Checked.{Checked}
 use Rattle.calendar.specs.declared.Checked.the-variants as checked-is
 use Rattle.calendar.specs.declared.Decided.{Decided}
 use Rattle.calendar.specs.declared.Decided.the-variants as decided-is
+use Rattle.calendar.specs.declared.search.Near.{Near}
 use Rattle.calendar.specs.declared.search.Placed.{Placed}
 use Rattle.calendar.specs.declared.search.Placed.the-variants as placed-is
 use Rattle.calendar.specs.Open.{closedOk, calendarOk}
@@ -51,9 +52,9 @@ module _ (r : Decided) (a : Answer Bool) (h : decided r ≡ a) where
   told-refused n e = sym h ∙ rw e
 
 module _ (r : Placed) (a : Answer ℕ) (h : placed r ≡ a) where
-  pub placed-day : (day place : ℕ) → r ≡ placed-is.Day day place → a ≡ given day
+  pub placed-day : (day : ℕ) (near : Near) → r ≡ placed-is.Day day near → a ≡ given day
   unfolding placed
-  placed-day day place e = sym h ∙ rw e
+  placed-day day near e = sym h ∙ rw e
 
   pub placed-refused : (n : ℕ) → r ≡ placed-is.Refused n → a ≡ refused n
   unfolding placed

@@ -2,16 +2,18 @@
 // A search costs the logarithm of the list and at most thirty-one steps. A day's place is the first in the list whose date is at least
 // the day, or the length.
 ghost use mathlib.Core.Path.{_≡_};
-ghost use mathlib.Core.Bool.{true, false};
-ghost use Prim.Native.Nat.{_+_, _/_, _%_, _^_, _≤_, _<_};
-ghost use lib.Dec.{eqb};
+ghost use mathlib.Core.Bool.{true, false, _&&_};
+ghost use Prim.Native.Nat.{_+_, _-_, _/_, _%_, _^_, _≤_, _<_};
+ghost use lib.Dec.{eqb, leb};
 ghost use Rattle.refusal.specs.Answer.{then};
+ghost use Rattle.date.specs.Civil.{fieldsOf};
 ghost use Rattle.date.specs.Date.{dated, step};
 ghost use Rattle.calendar.specs.declared.Convention.the-variants.{Following, ModifiedFollowing, Preceding, ModifiedPreceding};
 ghost use Rattle.calendar.specs.Open.{weeklyClosed, isOpen, closedOk};
 ghost use Rattle.calendar.specs.Places.{LowerBound};
 ghost use Rattle.calendar.specs.Adjust.{inSpan, firstOpen, sameMonth, towards, adjusted, lastOpen, atMonthEnd, openSteps, endAsked, landed, addWeeks, addMonths, advanced};
 ghost use Rattle.calendar.specs.Calendar.{decided, placed};
+ghost use Rattle.calendar.specs.Near.{OneMonth, Known, Adjusts};
 use crate::Convention;
 use crate::Decided;
 use crate::closed_dates;
@@ -24,9 +26,17 @@ use period::Unit;
 // How many days a search tries.
 const TRIES: u32 = 31;
 
-// An adjusted date, and a place to look from for a day near the one that was adjusted.
+// What is known beside a day that was adjusted: a guess at the place of a day near it, and the first and the last of days that lie in
+// one month, none if the first is the later one.
+pub struct Near {
+    pub place: usize,
+    pub from: u32,
+    pub to: u32,
+}
+
+// An adjusted date, and what is then known for a day near the one that was adjusted.
 pub enum Placed {
-    Day { day: u32, place: usize },
+    Day { day: u32, near: Near },
     Refused(u8),
 }
 
@@ -91,6 +101,24 @@ fn same_month(a: u32, b: u32) -> bool
         return has_begun(a, b);
     }
     true
+}
+
+// The first day of a day's month. Day 0 lies in none.
+fn month_start(day: u32) -> u32
+    ensures { λ r. ⌜ (1 ≤ day → r ≡ day + 1 - fieldsOf day .day) ⌝ }
+{
+    let f = civil::fields_of(day);
+    if day < f.day {
+        return 0;
+    }
+    day - f.day + 1
+}
+
+// Whether two days, the earlier one first, are known to lie in one month.
+fn is_known(near: Near, earlier: u32, later: u32) -> bool
+    ensures { λ r. ⌜ r ≡ (leb (near .from) earlier && leb later (near .to)) ⌝ }
+{
+    near.from <= earlier && later <= near.to
 }
 
 // Whether a day is open, told at its place.
@@ -286,33 +314,75 @@ pub fn adjust(day: u32, convention: Convention, mask: u8, closed: &[u32]) -> Dat
     }
 }
 
-fn with_place(found: Dated, place: usize) -> Placed
-    ensures { λ r. ⌜ placed r ≡ dated found ⌝ }
+fn with_near(found: Dated, near: Near) -> Placed
+    ensures { λ r. ⌜ (placed r ≡ dated found) × (OneMonth (near .from) (near .to) → Known r) ⌝ }
 {
     match found {
-        Dated::Day(d) => Placed::Day { day: d.day, place },
+        Dated::Day(d) => Placed::Day { day: d.day, near },
         Dated::Refused(n) => Placed::Refused(n),
     }
 }
 
-// The same for one day after another: the day's place is looked for from a guess, as the place that a day near it had.
-pub fn adjust_near(
-    day: u32,
-    guess: usize,
-    convention: Convention,
-    mask: u8,
-    closed: &[u32],
-) -> Placed
-    ensures { λ r. ⌜ (closedOk (now (closed .entry)) ≡ true → placed r ≡ adjusted mask (now (closed .entry)) convention day) ⌝ }
+// Modified Following where days of one month may be known. Else the later day's month is split, and is then known up to that day.
+fn follow_near(near: Near, day: u32, mask: u8, closed: &[u32]) -> Placed
+    requires { ⌜ LowerBound (now closed) day (near .place) ⌝ }
+    ensures { λ r. ⌜ (closedOk (now (closed .entry)) ≡ true → OneMonth (near .from) (near .to) → Adjusts mask (now (closed .entry)) ModifiedFollowing day r) ⌝ }
+{
+    let place = near.place;
+    let first = following_from(place, day, mask, closed);
+    match first {
+        Dated::Refused(n) => Placed::Refused(n),
+        Dated::Day(later) => {
+            if is_known(near, day, later.day) {
+                return Placed::Day {
+                    day: later.day,
+                    near,
+                };
+            }
+            let from = month_start(later.day);
+            if from <= day {
+                return Placed::Day {
+                    day: later.day,
+                    near: Near {
+                        place,
+                        from,
+                        to: later.day,
+                    },
+                };
+            }
+            with_near(preceding_from(place, day, mask, closed), near)
+        }
+    }
+}
+
+// A search where something may be known. Modified Following is the common convention, and alone asks for the month.
+fn search_near(near: Near, day: u32, convention: Convention, mask: u8, closed: &[u32]) -> Placed
+    requires { ⌜ LowerBound (now closed) day (near .place) ⌝ }
+    ensures { λ r. ⌜ (closedOk (now (closed .entry)) ≡ true → OneMonth (near .from) (near .to) → Adjusts mask (now (closed .entry)) convention day r) ⌝ }
 {
     match convention {
-        Convention::Unadjusted => with_place(span::within(day as u64), guess),
+        Convention::ModifiedFollowing => follow_near(near, day, mask, closed),
+        _ => with_near(search_from(near.place, day, convention, mask, closed), near),
+    }
+}
+
+// The same as `adjust` for one day after another: the day's place is looked for from a guess, as the place that a day near it had.
+pub fn adjust_near(day: u32, near: Near, convention: Convention, mask: u8, closed: &[u32]) -> Placed
+    ensures { λ r. ⌜ (closedOk (now (closed .entry)) ≡ true → OneMonth (near .from) (near .to) → Adjusts mask (now (closed .entry)) convention day r) ⌝ }
+{
+    match convention {
+        Convention::Unadjusted => with_near(span::within(day as u64), near),
         _ => {
-            let place = closed_dates::place_near(closed, day, guess);
+            let place = closed_dates::place_near(closed, day, near.place);
+            let here = Near {
+                place,
+                from: near.from,
+                to: near.to,
+            };
             if is_open_at(place, day, mask, closed) {
-                return with_place(span::within(day as u64), place);
+                return with_near(span::within(day as u64), here);
             }
-            with_place(search_from(place, day, convention, mask, closed), place)
+            search_near(here, day, convention, mask, closed)
         }
     }
 }

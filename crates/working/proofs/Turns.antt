@@ -14,7 +14,9 @@ use Rattle.date.specs.declared.Dated.the-variants.{Day, Refused}
 use Rattle.date.specs.Date.{dated}
 use Rattle.date.specs.Made.{given-day, refused-day}
 use Rattle.calendar.specs.declared.Convention.{Convention}
+use Rattle.calendar.specs.declared.search.Near.{Near}
 use Rattle.calendar.specs.Adjust.{adjusted}
+use Rattle.calendar.specs.Near.{OneMonth}
 use Rattle.calendar.specs.Stays.{adjust-again}
 use Rattle.steps.specs.declared.Pace.{Pace}
 use Rattle.steps.specs.declared.Seed.{Seed}
@@ -53,31 +55,31 @@ module _ (settled : Bool) (mask : ℕ) (closed : List ℕ) (convention : Convent
     unfolding unlessPastKept told Learnt
     compare-closed n e = record { says = then-given _ held _ _ known (then-refused _ n _ e); learnt = tt }
 
-    module _ (b place : ℕ) (t : adjusted mask closed convention day ≡ given b) where
-      pub compare-skip : held ≡ b → Compared mask closed convention newest (unlessPastKept settled false mask closed convention newest day) (Skip held place)
+    module _ (b : ℕ) (near : Near) (t : adjusted mask closed convention day ≡ given b) (month : OneMonth (near .from) (near .to)) where
+      pub compare-skip : held ≡ b → Compared mask closed convention newest (unlessPastKept settled false mask closed convention newest day) (Skip held near)
       unfolding unlessPastKept told Learnt unlessSame
       compare-skip e =
           record {
             says = then-given _ held _ _ known (then-given _ b _ _ t (rw (eq-eqb held b e) refl));
-            learnt = front-from mask closed convention newest held known;
+            learnt = (front-from mask closed convention newest held known, month);
           }
 
       module _ (e : held ≡ b → ⊥) where
-        pub compare-keep : settled ≡ false → Compared mask closed convention newest (unlessPastKept settled false mask closed convention newest day) (Keep day b place)
+        pub compare-keep : settled ≡ false → Compared mask closed convention newest (unlessPastKept settled false mask closed convention newest day) (Keep day b near)
         unfolding unlessPastKept told Learnt unlessSame
         compare-keep f =
             record {
               says = then-given _ held _ _ known (then-given _ b _ _ t (rw (ne-eqb held b e, f) refl));
-              learnt = front-from mask closed convention day b t;
+              learnt = (front-from mask closed convention day b t, month);
             }
 
         -- the date kept is adjusted already
-        pub compare-settle : settled ≡ true → Compared mask closed convention newest (unlessPastKept settled false mask closed convention newest day) (Keep b b place)
+        pub compare-settle : settled ≡ true → Compared mask closed convention newest (unlessPastKept settled false mask closed convention newest day) (Keep b b near)
         unfolding unlessPastKept told Learnt unlessSame
         compare-settle f =
             record {
               says = then-given _ held _ _ known (then-given _ b _ _ t (rw (ne-eqb held b e, f) refl));
-              learnt = front-from mask closed convention b b (adjust-again mask closed convention day b t);
+              learnt = (front-from mask closed convention b b (adjust-again mask closed convention day b t), month);
             }
 
 -- ---- the k-th candidate

@@ -11,8 +11,10 @@ use lib.Dec.{eqb}
 use Rattle.refusal.specs.Answer.{Answer, given, refused, then, BOOK}
 use Rattle.date.specs.Civil.{pickN}
 use Rattle.calendar.specs.declared.Convention.{Convention}
+use Rattle.calendar.specs.declared.search.Near.{Near}
 use Rattle.calendar.specs.Open.{closedOk}
 use Rattle.calendar.specs.Adjust.{adjusted}
+use Rattle.calendar.specs.Near.{OneMonth}
 use Rattle.steps.specs.declared.Pace.{Pace}
 use Rattle.steps.specs.declared.Seed.{Seed}
 use Rattle.steps.specs.Candidates as steps
@@ -30,19 +32,23 @@ use Rattle.working.specs.Turning.{Front, told, Learnt, Compared, walked,
 use Rattle.working.specs.Held.{newest-alone, put-is-newest}
 
 -- what is left to do from the k-th candidate on comes to the outcome o
-pub record Going (settled : Bool) (mask : ℕ) (closed : List ℕ) (convention : Convention) (back : Bool) (pace : Pace) (seed : Seed) (exit room : ℕ) (o : Answer Walk) (work marks : List ℕ) (n k front : ℕ) : Type 0 where
+pub record Going (settled : Bool) (mask : ℕ) (closed : List ℕ) (convention : Convention) (back : Bool) (pace : Pace) (seed : Seed) (exit room : ℕ) (o : Answer Walk) (work marks : List ℕ) (n k front : ℕ) (near : Near) : Type 0 where
   pub begun : Begun closed room n work marks
   pub front-known : Front mask closed convention front (newest (held back n work marks))
+  pub month-known : OneMonth (near .from) (near .to)
   pub same : walk (turnKept settled mask closed convention back pace seed exit) room (876217 - k) k (held back n work marks) ≡ o
 
 front-unknown : (mask : ℕ) (closed : List ℕ) (convention : Convention) (day : ℕ) → Front mask closed convention 0 day
 front-unknown mask closed convention day = record { known = λ h. absurd (h refl) }
 
-pub going-start : (settled : Bool) (mask : ℕ) (closed : List ℕ) (convention : Convention) (back : Bool) (pace : Pace) (seed : Seed) (exit room n : ℕ) (work marks : List ℕ) → Begun closed room n work marks → Going settled mask closed convention back pace seed exit room (walk (turnKept settled mask closed convention back pace seed exit) room 876216 1 (held back n work marks)) work marks n 1 0
-going-start settled mask closed convention back pace seed exit room n work marks b =
-    record { begun = b; front-known = front-unknown mask closed convention _; same = refl }
+none-known : OneMonth 1 0
+none-known = record { alike = λ a b l m h. let bad : ⊥ = omega arith in absurd bad }
 
-module _ {settled : Bool} {mask : ℕ} {closed : List ℕ} {convention : Convention} {back : Bool} {pace : Pace} {seed : Seed} {exit room : ℕ} {o : Answer Walk} {work marks : List ℕ} {n k front : ℕ} (g : Going settled mask closed convention back pace seed exit room o work marks n k front) where
+pub going-start : (settled : Bool) (mask : ℕ) (closed : List ℕ) (convention : Convention) (back : Bool) (pace : Pace) (seed : Seed) (exit room n : ℕ) (work marks : List ℕ) → Begun closed room n work marks → Going settled mask closed convention back pace seed exit room (walk (turnKept settled mask closed convention back pace seed exit) room 876216 1 (held back n work marks)) work marks n 1 0 (record { place = 0; from = 1; to = 0 })
+going-start settled mask closed convention back pace seed exit room n work marks b =
+    record { begun = b; front-known = front-unknown mask closed convention _; month-known = none-known; same = refl }
+
+module _ {settled : Bool} {mask : ℕ} {closed : List ℕ} {convention : Convention} {back : Bool} {pace : Pace} {seed : Seed} {exit room : ℕ} {o : Answer Walk} {work marks : List ℕ} {n k front : ℕ} {near : Near} (g : Going settled mask closed convention back pace seed exit room o work marks n k front near) where
   -- the candidates have been looked at
   pub walk-out : 876216 < k → Walking mask closed convention back room o (Refused 2) work marks
   unfolding walk walked Stands
@@ -51,7 +57,7 @@ module _ {settled : Bool} {mask : ℕ} {closed : List ℕ} {convention : Convent
       let s : refused BOOK ≡ o = rw a at (g .same) in
       record { says = s; stands = tt }
 
-  module _ (near : k ≤ 876216) (day : ℕ) (at : length work ≡ 4096 → n < 4097 → day ≡ newest (held back n work work)) where
+  module _ (few : k ≤ 876216) (day : ℕ) (at : length work ≡ 4096 → n < 4097 → day ≡ newest (held back n work work)) where
     here : day ≡ newest (held back n work marks)
     here =
         let p = g .begun .part in
@@ -60,9 +66,9 @@ module _ {settled : Bool} {mask : ℕ} {closed : List ℕ} {convention : Convent
     front-here : Front mask closed convention front day
     front-here = rw here (g .front-known)
 
-    module _ (r : Turn) (turned : closedOk closed ≡ true → Front mask closed convention front day → Compared mask closed convention day (turnKept settled mask closed convention back pace seed exit day k) r) where
+    module _ (r : Turn) (turned : closedOk closed ≡ true → Front mask closed convention front day → OneMonth (near .from) (near .to) → Compared mask closed convention day (turnKept settled mask closed convention back pace seed exit day k) r) where
       t : Compared mask closed convention day (turnKept settled mask closed convention back pace seed exit day k) r
-      t = turned (g .begun .calendar) front-here
+      t = turned (g .begun .calendar) front-here (g .month-known)
 
       opened : then (told r) (λ t. onTurn room t k (held back n work marks) (walk (turnKept settled mask closed convention back pace seed exit) room (876217 - suc k) (suc k))) ≡ o
       unfolding walk
@@ -79,17 +85,19 @@ module _ {settled : Bool} {mask : ℕ} {closed : List ℕ} {convention : Convent
       unfolding told then walked Stands onTurn
       walk-past e = record { says = rw e at opened; stands = (g .begun .part, g .begun .some, g .front-known) }
 
-      pub walk-skip : (a place : ℕ) → r ≡ Skip a place → Going settled mask closed convention back pace seed exit room o work marks n (k + 1) a
+      pub walk-skip : (a : ℕ) (beside : Near) → r ≡ Skip a beside → Going settled mask closed convention back pace seed exit room o work marks n (k + 1) a beside
       unfolding told then onTurn Learnt
-      walk-skip a place e =
+      walk-skip a beside e =
           let l : Learnt mask closed convention day r = t .learnt in
+          let q : Front mask closed convention a day × OneMonth (beside .from) (beside .to) = rw e at l in
           record {
             begun = g .begun;
-            front-known = rw here at (rw e at l);
+            front-known = rw here at (q .0);
+            month-known = q .1;
             same = rw (add-one k) (rw e at opened);
           }
 
-      module _ (d b place : ℕ) (e : r ≡ Keep d b place) (f : Filled) (work′ marks′ : List ℕ) (filled-so : Part room n work marks → Filling back room (put room d 1 (held back n work marks)) f work′ marks′) where
+      module _ (d b : ℕ) (beside : Near) (e : r ≡ Keep d b beside) (f : Filled) (work′ marks′ : List ℕ) (filled-so : Part room n work marks → Filling back room (put room d 1 (held back n work marks)) f work′ marks′) where
         p : Filling back room (put room d 1 (held back n work marks)) f work′ marks′
         p = filled-so (g .begun .part)
 
@@ -108,15 +116,17 @@ module _ {settled : Bool} {mask : ℕ} {closed : List ℕ} {convention : Convent
         pub walk-newest : (m : ℕ) → f ≡ filled-is.Ready m → d ≡ newest (held back m work′ work′)
         walk-newest m q = sym (newest-alone back m work′ marks′ ∙ put-newest m q)
 
-        pub walk-keep : (m : ℕ) → f ≡ filled-is.Ready m → Going settled mask closed convention back pace seed exit room o work′ marks′ m (k + 1) b
+        pub walk-keep : (m : ℕ) → f ≡ filled-is.Ready m → Going settled mask closed convention back pace seed exit room o work′ marks′ m (k + 1) b beside
         unfolding filled Placed then Learnt
         walk-keep m q =
             let l : Learnt mask closed convention day r = t .learnt in
+            let z : Front mask closed convention b d × OneMonth (beside .from) (beside .to) = rw e at l in
             let v : Placed room f work′ marks′ = p .part in
             let u : Part room m work′ marks′ × (0 < m) = rw q at v in
             record {
               begun = record { calendar = g .begun .calendar; some = u .1; part = u .0 };
-              front-known = rw (put-newest m q) (rw e at l);
+              front-known = rw (put-newest m q) (z .0);
+              month-known = z .1;
               same = rw (add-one k) (rw q at kept);
             }
 

@@ -7,6 +7,7 @@ use mathlib.Core.List.{List}
 use Rattle.refusal.specs.Answer.{Answer, given, refused}
 use Rattle.calendar.specs.declared.Convention.{Convention}
 use Rattle.calendar.specs.Adjust.{adjusted}
+use Rattle.calendar.specs.Near.{OneMonth}
 use Rattle.steps.specs.Candidates as steps
 use Rattle.steps.specs.Generate.{Walk, newest}
 use Rattle.working.specs.declared.candidates.Turn.{Turn}
@@ -22,15 +23,17 @@ pub record Front (mask : ℕ) (closed : List ℕ) (convention : Convention) (fro
 -- ---- a turn
 unfoldable pub told : Turn → Answer steps.Turn
 told Past = given steps.past
-told (Skip front place) = given steps.skip
-told (Keep day front place) = given (steps.keep day)
+told (Skip front near) = given steps.skip
+told (Keep day front near) = given (steps.keep day)
 told (Stop n) = refused n
 
--- what is known then of the newest date
+-- what is known then of the newest date, and for the next candidate
 unfoldable pub Learnt : ℕ → List ℕ → Convention → ℕ → Turn → Type 0
 Learnt mask closed convention newest Past = Unit {0}
-Learnt mask closed convention newest (Skip front place) = Front mask closed convention front newest
-Learnt mask closed convention newest (Keep day front place) = Front mask closed convention front day
+Learnt mask closed convention newest (Skip front near) =
+    Front mask closed convention front newest × OneMonth (near .from) (near .to)
+Learnt mask closed convention newest (Keep day front near) =
+    Front mask closed convention front day × OneMonth (near .from) (near .to)
 Learnt mask closed convention newest (Stop n) = Unit {0}
 
 pub record Compared (mask : ℕ) (closed : List ℕ) (convention : Convention) (newest : ℕ) (o : Answer steps.Turn) (r : Turn) : Type 0 where

@@ -5,12 +5,14 @@ ghost use Prim.Native.Nat.{min};
 ghost use Rattle.date.specs.Date.{dated};
 ghost use Rattle.calendar.specs.Open.{closedOk};
 ghost use Rattle.calendar.specs.Adjust.{adjusted};
+ghost use Rattle.calendar.specs.Near.{OneMonth};
 ghost use Rattle.steps.specs.Candidates.{candidate, isPast};
 ghost use Rattle.steps.specs.Fewer.{unlessPastKept, turnKept};
 ghost use Rattle.working.specs.Turning.{Front, Compared};
 ghost use Rattle.working.specs.Paces.{pace};
 use calendar::Convention;
 use calendar::search;
+use calendar::search::Near;
 use calendar::search::Placed;
 use date::Dated;
 use date::span;
@@ -21,11 +23,11 @@ use steps::Pace;
 use steps::Seed;
 
 // What a candidate does: it ends the loop, is skipped, is kept, or stops the build. A turn that goes on tells the adjusted
-// date of the newest date then kept, and a place in the closed list to look from for the next candidate.
+// date of the newest date then kept, and what is known for the next candidate.
 pub(crate) enum Turn {
     Past,
-    Skip { front: u32, place: usize },
-    Keep { day: u32, front: u32, place: usize },
+    Skip { front: u32, near: Near },
+    Keep { day: u32, front: u32, near: Near },
     Stop(u8),
 }
 
@@ -90,12 +92,12 @@ fn compare(
     day: u32,
     newest: u32,
     front: u32,
-    guess: usize,
+    near: Near,
     convention: Convention,
     mask: u8,
     closed: &[u32],
 ) -> Turn
-    ensures { λ r. ⌜ (closedOk (now (closed .entry)) ≡ true → Front mask (now (closed .entry)) convention front newest → Compared mask (now (closed .entry)) convention newest (unlessPastKept settled false mask (now (closed .entry)) convention newest day) r) ⌝ }
+    ensures { λ r. ⌜ (closedOk (now (closed .entry)) ≡ true → Front mask (now (closed .entry)) convention front newest → OneMonth (near .from) (near .to) → Compared mask (now (closed .entry)) convention newest (unlessPastKept settled false mask (now (closed .entry)) convention newest day) r) ⌝ }
 {
     let mut held = front;
     if front == 0 {
@@ -107,24 +109,30 @@ fn compare(
             }
         }
     }
-    let moved = search::adjust_near(day, guess, convention, mask, closed);
+    let moved = search::adjust_near(day, near, convention, mask, closed);
     match moved {
         Placed::Refused(n) => Turn::Stop(n),
-        Placed::Day { day: b, place } => {
+        Placed::Day {
+            day: b,
+            near: beside,
+        } => {
             if held == b {
-                return Turn::Skip { front: held, place };
+                return Turn::Skip {
+                    front: held,
+                    near: beside,
+                };
             }
             if settled {
                 return Turn::Keep {
                     day: b,
                     front: b,
-                    place,
+                    near: beside,
                 };
             }
             Turn::Keep {
                 day,
                 front: b,
-                place,
+                near: beside,
             }
         }
     }
@@ -142,10 +150,10 @@ pub(crate) fn try_candidate(
     closed: &[u32],
     newest: u32,
     front: u32,
-    guess: usize,
+    near: Near,
     k: u32,
 ) -> Turn
-    ensures { λ r. ⌜ (closedOk (now (closed .entry)) ≡ true → Front mask (now (closed .entry)) convention front newest → Compared mask (now (closed .entry)) convention newest (turnKept settled mask (now (closed .entry)) convention back pace seed exit newest k) r) ⌝ }
+    ensures { λ r. ⌜ (closedOk (now (closed .entry)) ≡ true → Front mask (now (closed .entry)) convention front newest → OneMonth (near .from) (near .to) → Compared mask (now (closed .entry)) convention newest (turnKept settled mask (now (closed .entry)) convention back pace seed exit newest k) r) ⌝ }
 {
     let next = candidate(back, pace, seed, k);
     match next {
@@ -159,7 +167,7 @@ pub(crate) fn try_candidate(
                 d.day,
                 newest,
                 front,
-                guess,
+                near,
                 convention,
                 mask,
                 closed,

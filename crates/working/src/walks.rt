@@ -9,6 +9,7 @@ use crate::candidates::Turn;
 use crate::lists;
 use calendar::Convention;
 use calendar::search;
+use calendar::search::Near;
 use steps::Pace;
 use steps::Seed;
 
@@ -40,7 +41,11 @@ pub fn walk(
     let mut n = start;
     let mut k: u32 = 1;
     let mut front: u32 = 0;
-    let mut guess = 0;
+    let mut near = Near {
+        place: 0,
+        from: 1,
+        to: 0,
+    };
     let mut newest = lists::newest(back, n, work);
     while k <= 876216 {
         let t = candidates::try_candidate(
@@ -54,7 +59,7 @@ pub fn walk(
             closed,
             newest,
             front,
-            guess,
+            near,
             k,
         );
         match t {
@@ -64,15 +69,18 @@ pub fn walk(
             Turn::Past => {
                 return Walked::Ready { n, tries: k, front };
             }
-            Turn::Skip { front: a, place } => {
+            Turn::Skip {
+                front: a,
+                near: beside,
+            } => {
                 front = a;
-                guess = place;
+                near = beside;
                 k += 1;
             }
             Turn::Keep {
                 day,
                 front: b,
-                place,
+                near: beside,
             } => {
                 let put = lists::put(back, n, room, day, 1, work, marks);
                 match put {
@@ -83,7 +91,7 @@ pub fn walk(
                         n = m;
                         newest = day;
                         front = b;
-                        guess = place;
+                        near = beside;
                         k += 1;
                     }
                 }

@@ -14,8 +14,8 @@ enum-told c = search needs
 within-requires : tie.Need-within-requires
 within-requires c κs = search needs
 
-with-place-requires : tie.Need-with-place-requires
-with-place-requires c κs = search needs
+with-near-requires : tie.Need-with-near-requires
+with-near-requires c κs = search needs
 
 place-near-requires : tie.Need-place-near-requires
 place-near-requires c κs = search needs
@@ -26,26 +26,32 @@ is-open-at-requires c κs = search needs
 within-requires-2 : tie.Need-within-requires-2
 within-requires-2 c κs = search needs
 
-with-place-requires-2 : tie.Need-with-place-requires-2
-with-place-requires-2 c κs = search needs
+with-near-requires-2 : tie.Need-with-near-requires-2
+with-near-requires-2 c κs = search needs
 
 returns : tie.Need-returns
-returns c =
+returns c = λ ok m.
     let o = c .before .before in
-    λ ok. c .with-place2 .ensures ∙ c .before .within2 .ensures ∙ sym (open-stays _ _ _ (sym (o .before .is-open-at .ensures ok) ∙ o .if1 .taken) _)
+    let w = c .with-near2 .ensures in
+    record {
+      says = w .0 ∙ c .before .within2 .ensures ∙ sym (open-stays _ _ _ (sym (o .before .is-open-at .ensures ok) ∙ o .if1 .taken) _);
+      known = w .1 m;
+    }
 
-search-from-requires : tie.Need-search-from-requires
-search-from-requires c κs = search needs
-
-with-place-requires-3 : tie.Need-with-place-requires-3
-with-place-requires-3 c κs = search needs
+search-near-requires : tie.Need-search-near-requires
+search-near-requires c κs = search needs
 
 returns-2 : tie.Need-returns-2
 unfolding adjusted byConvention
-returns-2 c = λ ok. rw (c .before .before .enum-told .given .1) (c .with-place .ensures ∙ c .before .within .ensures ∙ span-need _)
+returns-2 c = λ ok m.
+    let w = c .with-near .ensures in
+    record {
+      says = rw (c .before .before .enum-told .given .1) (w .0 ∙ c .before .within .ensures ∙ span-need _);
+      known = w .1 m;
+    }
 
 returns-3 : tie.Need-returns-3
-returns-3 c = λ ok. c .with-place3 .ensures ∙ c .before .search-from .ensures ok
+returns-3 c = search needs
 
 pub adjust-near-spec : {M : Type 1} → statement M
 adjust-near-spec =
@@ -53,13 +59,12 @@ adjust-near-spec =
     (tie.spec
     enum-told
     within-requires
-    with-place-requires
+    with-near-requires
     place-near-requires
     is-open-at-requires
     within-requires-2
-    with-place-requires-2
+    with-near-requires-2
     returns
-    search-from-requires
-    with-place-requires-3
+    search-near-requires
     returns-2
     returns-3)

@@ -9,6 +9,7 @@ use Rattle.refusal.specs.Answer.{given}
 use Rattle.date.specs.Made.{given-day}
 use Rattle.calendar.specs.Open.{closedOk}
 use Rattle.calendar.specs.Adjust.{adjusted}
+use Rattle.calendar.specs.Near.{known-near}
 use Rattle.calendar.specs.Told.{placed-day, placed-refused}
 use Rattle.working.specs.Turning.{Front}
 use Rattle.working.proofs.Turns.{compare-stop, compare-closed, compare-skip, compare-settle, compare-keep}
@@ -40,7 +41,7 @@ enum-known-found c = search needs
 returns : tie.Need-returns
 returns c =
     let found = c .before .before .before .adjust in
-    λ ok f. compare-stop _ _ _ _ _ _ (found .result) (found .ensures ok) (c .before .found .given .0 .0) (c .before .found .given .1)
+    λ ok f m. compare-stop _ _ _ _ _ _ (found .result) (found .ensures ok) (c .before .found .given .0 .0) (c .before .found .given .1)
 
 enum-known-found-2 : tie.Need-enum-known-found-2
 enum-known-found-2 c = search needs
@@ -56,26 +57,26 @@ enum-known-moved-2 c = search needs
 
 returns-2 : tie.Need-returns-2
 returns-2 c =
-    let m = c .before .before .before .before in
+    let a = c .before .before .before .before in
     let b = c .before .before .moved2 .given in
-    λ ok f. compare-skip _ _ _ _ _ _ _ (known (m .before) ok f) _ _ (placed-day _ _ (m .adjust-near .ensures ok) _ _ (b .1)) (c .if2 .taken)
+    λ ok f m. compare-skip _ _ _ _ _ _ _ (known (a .before) ok f) _ _ (placed-day _ _ (a .adjust-near .ensures ok m .says) _ _ (b .1)) (known-near _ _ _ (a .adjust-near .ensures ok m .known) (b .1)) (c .if2 .taken)
 
 returns-3 : tie.Need-returns-3
 returns-3 c =
-    let m = c .before .before .before .before .before in
+    let a = c .before .before .before .before .before in
     let b = c .before .before .before .moved2 .given in
-    λ ok f. compare-settle _ _ _ _ _ _ _ (known (m .before) ok f) _ _ (placed-day _ _ (m .adjust-near .ensures ok) _ _ (b .1)) (c .before .if2 .left) (c .if3 .taken)
+    λ ok f m. compare-settle _ _ _ _ _ _ _ (known (a .before) ok f) _ _ (placed-day _ _ (a .adjust-near .ensures ok m .says) _ _ (b .1)) (known-near _ _ _ (a .adjust-near .ensures ok m .known) (b .1)) (c .before .if2 .left) (c .if3 .taken)
 
 returns-4 : tie.Need-returns-4
 returns-4 c =
-    let m = c .before .before .before in
-    λ ok f. compare-closed _ _ _ _ _ _ _ (known (m .before) ok f) _ (placed-refused _ _ (m .adjust-near .ensures ok) _ (c .before .moved .given .1))
+    let a = c .before .before .before in
+    λ ok f m. compare-closed _ _ _ _ _ _ _ (known (a .before) ok f) _ (placed-refused _ _ (a .adjust-near .ensures ok m .says) _ (c .before .moved .given .1))
 
 returns-5 : tie.Need-returns-5
 returns-5 c =
-    let m = c .before .before .before .before .before in
+    let a = c .before .before .before .before .before in
     let b = c .before .before .before .moved2 .given in
-    λ ok f. compare-keep _ _ _ _ _ _ _ (known (m .before) ok f) _ _ (placed-day _ _ (m .adjust-near .ensures ok) _ _ (b .1)) (c .before .if2 .left) (c .if3 .left)
+    λ ok f m. compare-keep _ _ _ _ _ _ _ (known (a .before) ok f) _ _ (placed-day _ _ (a .adjust-near .ensures ok m .says) _ _ (b .1)) (known-near _ _ _ (a .adjust-near .ensures ok m .known) (b .1)) (c .before .if2 .left) (c .if3 .left)
 
 pub compare-spec : {M : Type 1} → statement M
 compare-spec =

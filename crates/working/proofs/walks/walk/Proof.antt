@@ -17,11 +17,11 @@ use Rattle.working.proofs.lists.newest.Reads as newest-reads
 use Rattle.working.proofs.lists.put.Reads as put-reads
 
 abbrev Inv-loop : tie.InvT-loop
-Inv-loop settled back pace seed exit mask closed start room work₀ marks₀ way n₀ k₀ front₀ guess₀ day₀ work marks n k front guess day =
-    (k ≤ 876217) × (length work ≡ length work₀) × (length marks ≡ length marks₀) × (Begun closed room start work₀ marks₀ → Going settled mask closed way back pace seed exit room (walk (turnKept settled mask closed way back pace seed exit) room 876216 1 (held back start work₀ marks₀)) work marks n k front) × (Begun closed room start work₀ marks₀ → length work ≡ 4096 → n < 4097 → day ≡ newest (held back n work work))
+Inv-loop settled back pace seed exit mask closed start room work₀ marks₀ way n₀ k₀ front₀ near₀ day₀ work marks n k front near day =
+    (k ≤ 876217) × (length work ≡ length work₀) × (length marks ≡ length marks₀) × (Begun closed room start work₀ marks₀ → Going settled mask closed way back pace seed exit room (walk (turnKept settled mask closed way back pace seed exit) room 876216 1 (held back start work₀ marks₀)) work marks n k front near) × (Begun closed room start work₀ marks₀ → length work ≡ 4096 → n < 4097 → day ≡ newest (held back n work work))
 
 abbrev μ-loop : tie.MeasureT-loop
-μ-loop settled back pace seed exit mask closed start room work₀ marks₀ way n₀ k₀ front₀ guess₀ day₀ work marks n k front guess day =
+μ-loop settled back pace seed exit mask closed start room work₀ marks₀ way n₀ k₀ front₀ near₀ day₀ work marks n k front near day =
     876217 - k
 
 loop-holds : tie.Need-loop-holds Inv-loop μ-loop
