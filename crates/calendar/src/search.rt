@@ -355,7 +355,7 @@ fn follow_near(near: Near, day: u32, mask: u8, closed: &[u32]) -> Placed
     }
 }
 
-// A search where something may be known. Modified Following is the common convention, and alone asks for the month.
+// A search where something may be known. Modified Following is the common convention, and alone uses what is known of a month.
 fn search_near(near: Near, day: u32, convention: Convention, mask: u8, closed: &[u32]) -> Placed
     requires { ⌜ LowerBound (now closed) day (near .place) ⌝ }
     ensures { λ r. ⌜ (closedOk (now (closed .entry)) ≡ true → OneMonth (near .from) (near .to) → Adjusts mask (now (closed .entry)) convention day r) ⌝ }
