@@ -16,6 +16,7 @@ use Rattle.calendar.specs.Open.{weeklyClosed, member, isOpen, closedOk}
 use Rattle.calendar.specs.Places.{Below, Above, LowerBound}
 use Rattle.calendar.specs.Adjust.{firstOpen}
 use Rattle.calendar.specs.Search.{turn-open, turn-shut, turn-none}
+use Rattle.calendar.proofs.Places.{strictly}
 use Rattle.calendar.proofs.Members.{present, between, below-to, above-from, below-none, above-end, shut-week, shut-listed, is-open}
 
 -- the dates that the scan has left behind lie on the far side of the day
@@ -137,11 +138,8 @@ unfolding Passed
 ahead-next {closed} {day} {at} s l h e =
     record {
       within = omega arith;
-      passed = λ ok. record { before = λ k q. ⊎-elim (λ (z : k ≡ at). rw z (less (getD closed at 0) h e)) (λ (z : k < at). s .passed ok .before k z) (eq-or-lt-of-le (omega arith)) };
+      passed = λ ok. record { before = λ k q. ⊎-elim (λ (z : k ≡ at). rw z (strictly (getD closed at 0) day h (λ p. e (sym p)))) (λ (z : k < at). s .passed ok .before k z) (eq-or-lt-of-le (omega arith)) };
     }
-  where
-    less : (x : ℕ) → x ≤ day → (x ≡ day → ⊥) → x < day
-    less x a b = ⊎-elim (λ (z : x ≡ day). absurd (b z)) (λ (z : x < day). z) (eq-or-lt-of-le a)
 
 pub ruleset ahead-rules = (ahead-start, scan-of-days, is-weekday, days-none, ahead-week, ahead-hit, ahead-stop, ahead-end, ahead-next, needs)
 
@@ -189,10 +187,7 @@ unfolding Passed
 behind-next {closed} {day} {at} s l h e =
     record {
       within = omega (arith, s .within);
-      passed = λ ok. record { after = λ k q r. ⊎-elim (λ (z : at - 1 ≡ k). rw (← z) (more (getD closed (at - 1) 0) h e)) (λ (z : at - 1 < k). s .passed ok .after k (omega arith) r) (eq-or-lt-of-le q) };
+      passed = λ ok. record { after = λ k q r. ⊎-elim (λ (z : at - 1 ≡ k). rw (← z) (strictly day (getD closed (at - 1) 0) h e)) (λ (z : at - 1 < k). s .passed ok .after k (omega arith) r) (eq-or-lt-of-le q) };
     }
-  where
-    more : (x : ℕ) → day ≤ x → (x ≡ day → ⊥) → day < x
-    more x a b = ⊎-elim (λ (z : day ≡ x). absurd (b (sym z))) (λ (z : day < x). z) (eq-or-lt-of-le a)
 
 pub ruleset behind-rules = (behind-start, scan-of-days, is-weekday, days-none, behind-week, behind-hit, behind-stop, behind-end, behind-next, needs)

@@ -13,6 +13,10 @@ use Rattle.calendar.specs.Open.{closedOk}
 use Rattle.calendar.specs.Kept.{ok-at}
 use Rattle.calendar.specs.Places.{LowerBound, Bracket}
 
+-- a number that is at least another, and not the same, is greater
+pub strictly : (x y : ℕ) → x ≤ y → (y ≡ x → ⊥) → x < y
+strictly x y l d = ⊎-elim (λ (q : x ≡ y). absurd (d (sym q))) (λ (q : x < y). q) (eq-or-lt-of-le l)
+
 pub bracket-start : {closed : List ℕ} {x : ℕ} → Bracket closed x 0 (length closed)
 bracket-start =
     record {
@@ -70,10 +74,7 @@ module _ {closed : List ℕ} {x at : ℕ} (b : LowerBound closed x at) where
 
   pub after-other : at < length closed → (getD closed at 0 ≡ x → ⊥) → LowerBound closed (x + 1) at
   after-other h e =
-      after-from (λ ok k q r. ⊎-elim (λ (p : at ≡ k). rw (← p) (more (getD closed at 0) (b .from ok at (omega arith) h) e)) (λ (p : at < k). omega (arith, ok-at closed at k ok p r, b .from ok at (omega arith) h)) (eq-or-lt-of-le q))
-    where
-      more : (y : ℕ) → x ≤ y → (y ≡ x → ⊥) → x < y
-      more y a d = ⊎-elim (λ (z : x ≡ y). absurd (d (sym z))) (λ (z : x < y). z) (eq-or-lt-of-le a)
+      after-from (λ ok k q r. ⊎-elim (λ (p : at ≡ k). rw (← p) (strictly x (getD closed at 0) (b .from ok at (omega arith) h) e)) (λ (p : at < k). omega (arith, ok-at closed at k ok p r, b .from ok at (omega arith) h)) (eq-or-lt-of-le q))
 
   pub after-end : length closed ≤ at → LowerBound closed (x + 1) at
   after-end h = after-from (λ ok k q r. let bad : ⊥ = omega arith in absurd bad)

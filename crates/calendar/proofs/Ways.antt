@@ -8,8 +8,6 @@ use native.Mathlib.Omega.{arith}
 use lib.ListN.{length, getD}
 use lib.Dec.{eqb, leb}
 use borrow.Author.Tests.{leb-true, eqb-true, eqb-false, eq-eqb, ne-eqb}
-use mathlib.Core.Logic.{⊎-elim}
-use native.Mathlib.Nat.{eq-or-lt-of-le}
 use Rattle.refusal.specs.Answer.{Answer, given, refused, need, then, BOOK, TENOR}
 use Rattle.refusal.specs.Laws.{holds, passed, failed, need-given, then-given, then-refused, then-stepped, never-both, one-given, both}
 use lib.IntN.{ℤ, natAbs}
@@ -32,6 +30,7 @@ use Rattle.calendar.specs.Near.{OneMonth, Known, Adjusts}
 use Rattle.calendar.specs.Adjust.{inSpan, firstOpen, found, sameMonth, unlessLeft, modified, byConvention, adjusted, towards, openSteps, advanced}
 use Rattle.calendar.specs.Calendar.{placed, tenorOk}
 use Rattle.calendar.specs.Search.{span-need, adjusted-first}
+use Rattle.calendar.proofs.Places.{strictly}
 use Rattle.calendar.proofs.OneMonth.{start-known, start-left}
 use Rattle.calendar.specs.Told.{ok-closed}
 use Rattle.calendar.proofs.Members.{present, between, above-from, above-end, shut-week, shut-listed, is-open}
@@ -93,11 +92,8 @@ module _ (mask : ℕ) (closed : List ℕ) (day : ℕ) {w : Bool} (p : w ≡ week
   single-by true at q l h ok e =
       sym (shut-listed mask closed day (present closed at day h (eqb-true (getD closed at 0) day e)))
   single-by false at q l h ok e =
-      let later : day < getD closed at 0 = strictly (getD closed at 0) (l .from ok at (omega arith) h) (eqb-false (getD closed at 0) day e) in
+      let later : day < getD closed at 0 = strictly day (getD closed at 0) (l .from ok at (omega arith) h) (eqb-false (getD closed at 0) day e) in
       sym (is-open mask closed day (sym p ∙ q) (between closed at day (l .below ok) (above-from closed at day ok later)))
-    where
-      strictly : (x : ℕ) → day ≤ x → (x ≡ day → ⊥) → day < x
-      strictly x a b = ⊎-elim (λ (z : day ≡ x). absurd (b (sym z))) (λ (z : day < x). z) (eq-or-lt-of-le a)
 
   pub single-at : (at : ℕ) → w ≡ false → LowerBound closed day at → at < length closed → closedOk closed ≡ true → not (eqb (getD closed at 0) day) ≡ isOpen mask closed day
   single-at at q l h ok = single-by (eqb (getD closed at 0) day) at q l h ok refl

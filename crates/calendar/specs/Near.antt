@@ -15,10 +15,12 @@ use Rattle.calendar.specs.Calendar.{placed}
 pub record OneMonth (from to : ℕ) : Type 0 where
   pub alike : (a b : ℕ) → from ≤ a → a ≤ b → b ≤ to → sameMonth a b ≡ true
 
+-- so do the days handed on, if a date is
 unfoldable pub Known : Placed → Type 0
 Known (Day day near) = OneMonth (near .from) (near .to)
 Known (Refused n) = Unit {0}
 
+-- an answer: the adjusted date or its refusal, and what is known beside it
 pub record Adjusts (mask : ℕ) (closed : List ℕ) (convention : Convention) (day : ℕ) (r : Placed) : Type 0 where
   pub says : placed r ≡ adjusted mask closed convention day
   pub known : Known r

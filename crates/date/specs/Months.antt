@@ -11,7 +11,7 @@ use lib.Dec.{eqb, leb, ltb}
 use lib.ListN.{getD, length}
 use mir.Val.{boolByte}
 use borrow.Author.Tests.{lt-ltb, le-ltb, eqb-true, leb-true, ltb-true, ltb-false}
-use Rattle.refusal.specs.Laws.{both}
+use Rattle.refusal.specs.Laws.{both, allBelow, below}
 use Rattle.date.specs.Civil.{pickN, leap, rowOf, monthLength, sumTo, monthIn, dayIn, placeOf}
 use Rattle.date.specs.declared.civil.Place.{Place}
 
@@ -161,21 +161,6 @@ sum-le false k = sum-le-at (rowOf false) refl k
 
 pub sum-small : (l : Bool) (k : ℕ) → k < 12 → sumTo (rowOf l) k ≤ 341
 sum-small l k h = omega (arith, sum-le l k)
-
--- ---- a rule that holds at each number below a bound, computed
-allBelow : ℕ → (ℕ → Bool) → Bool
-allBelow zero f = true
-allBelow (suc n) f = f n && allBelow n f
-
-below-go : (n : ℕ) (f : ℕ → Bool) (k : ℕ) (t : Bool) → ltb k n ≡ t → k < suc n → f n ≡ true → (k < n → f k ≡ true) → f k ≡ true
-below-go n f k true e h last rest = rest (ltb-true k n e)
-below-go n f k false e h last rest = let q : k ≡ n = omega (arith, ltb-false k n e) in rw q last
-
-below : (n : ℕ) (f : ℕ → Bool) → allBelow n f ≡ true → (k : ℕ) → k < n → f k ≡ true
-unfolding allBelow
-below zero f t k h = absurd (let bad : ⊥ = omega arith in bad)
-below (suc n) f t k h =
-    below-go n f k (ltb k n) refl h (both (f n) (allBelow n f) t .0) (below n f (both (f n) (allBelow n f) t .1) k)
 
 -- ---- the days before a month: by the rule for months of 30 and 31 days, less what February falls short of 30
 ruled : Bool → ℕ → ℕ

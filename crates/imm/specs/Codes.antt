@@ -1,14 +1,14 @@
 -- The code check says yes exactly for the codes of document 01, on byte strings of every length.
 -- Assumes nothing.
-use Prim.Native.Nat.{ℕ, zero, suc, _+_, _-_, _≤_, _<_}
+use Prim.Native.Nat.{ℕ, suc, _+_, _-_, _≤_, _<_}
 use mathlib.Core.Path.{_≡_, refl, sym, _∙_}
 use mathlib.Core.Bool.{Bool, true, false, false≢true, _&&_, _||_}
 use mathlib.Core.List.{List, [], _∷_}
 use native.Mathlib.Omega.{arith}
-use lib.Dec.{eqb, leb, ltb}
+use lib.Dec.{eqb, leb}
 use lib.ListN.{getD, length}
-use borrow.Author.Tests.{leb-true, le-leb, eqb-true, ltb-true, ltb-false}
-use Rattle.refusal.specs.Laws.{both}
+use borrow.Author.Tests.{leb-true, le-leb, eqb-true}
+use Rattle.refusal.specs.Laws.{both, allBelow, below}
 use Rattle.date.specs.Civil.{pickN}
 use Rattle.imm.specs.Imm.{mainMonth, inCycle, letters, upper, placeIn, monthOf, isDigit, isPair, isCode}
 
@@ -16,20 +16,6 @@ use Rattle.imm.specs.Imm.{mainMonth, inCycle, letters, upper, placeIn, m
 pub data IsCode (main : Bool) : List ℕ → Type 0 where
   capital : (k g : ℕ) → k < 12 → g < 10 → inCycle main (k + 1) ≡ true → IsCode main (getD letters k 0 ∷ (g + 48) ∷ [])
   small : (k g : ℕ) → k < 12 → g < 10 → inCycle main (k + 1) ≡ true → IsCode main ((getD letters k 0 + 32) ∷ (g + 48) ∷ [])
-
--- ---- a rule that holds at each number below a bound, computed
-allBelow : ℕ → (ℕ → Bool) → Bool
-allBelow zero f = true
-allBelow (suc n) f = f n && allBelow n f
-
-below-go : (n : ℕ) (f : ℕ → Bool) (k : ℕ) (t : Bool) → ltb k n ≡ t → k < suc n → f n ≡ true → (k < n → f k ≡ true) → f k ≡ true
-below-go n f k true e h last rest = rest (ltb-true k n e)
-below-go n f k false e h last rest = let q : k ≡ n = omega (arith, ltb-false k n e) in rw q last
-
-below : (n : ℕ) (f : ℕ → Bool) → allBelow n f ≡ true → (k : ℕ) → k < n → f k ≡ true
-unfolding allBelow
-below zero f e k h = absurd (let bad : ⊥ = omega arith in bad)
-below (suc n) f e k h = below-go n f k (ltb k n) refl h (both (f n) (allBelow n f) e .0) (below n f (both (f n) (allBelow n f) e .1) k)
 
 pub letter-month : (k : ℕ) → k < 12 → monthOf (getD letters k 0) ≡ k + 1
 unfolding allBelow monthOf letters upper placeIn
