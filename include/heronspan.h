@@ -198,8 +198,8 @@ enum {
  * places keep what they held. `terminal` is the convention of the last date. An anchor (`first`, `penultimate`) of 0 is no
  * anchor.
  *
- * `answer` has at least HERONSPAN_RECORD places, else HERONSPAN_ROOM is answered and nothing is written. The record of the
- * build is written to its start; of a refused one it is the number, then zeros. */
+ * `answer` has at least HERONSPAN_RECORD places, else HERONSPAN_ROOM is answered, before every other refusal, and nothing is
+ * written. The record of the build is written to its start; of a refused one it is the number, then zeros. */
 int64_t heronspan_build(uint32_t effective, uint32_t termination, int32_t tenor, uint8_t unit, uint8_t rule,
                         uint8_t convention, uint8_t terminal, uint8_t monthend, uint32_t first, uint32_t penultimate,
                         uint8_t mask, const uint32_t *closed, size_t closed_len, uint32_t *dates, size_t dates_len,

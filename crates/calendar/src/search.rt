@@ -8,6 +8,7 @@ ghost use lib.Dec.{eqb, leb};
 ghost use Rattle.refusal.specs.Answer.{then};
 ghost use Rattle.date.specs.Civil.{fieldsOf};
 ghost use Rattle.date.specs.Date.{dated, step};
+ghost use Rattle.calendar.specs.Always.{conventionOn};
 ghost use Rattle.calendar.specs.declared.Convention.the-variants.{Following, ModifiedFollowing, Preceding, ModifiedPreceding};
 ghost use Rattle.calendar.specs.Open.{weeklyClosed, isOpen, closedOk};
 ghost use Rattle.calendar.specs.Places.{LowerBound};
@@ -389,7 +390,7 @@ pub fn adjust_near(day: u32, near: Near, convention: Convention, mask: u8, close
 
 // The convention, or none where no day is closed, which comes to the same and needs no look at the calendar.
 pub fn convention_on(convention: Convention, mask: u8, closed: &[u32]) -> Convention
-    ensures { λ r. ⌜ adjusted mask (now (closed .entry)) r ≡ adjusted mask (now (closed .entry)) convention ⌝ }
+    ensures { λ r. ⌜ r ≡ conventionOn mask (now (closed .entry)) convention ⌝ }
 {
     if mask == 0 {
         if closed.len() == 0 {

@@ -20,6 +20,7 @@ use Rattle.calendar.specs.declared.Convention.{Convention}
 use Rattle.calendar.specs.declared.Decided.{Decided}
 use Rattle.calendar.specs.declared.Decided.the-variants as decided-is
 use Rattle.calendar.specs.Open.{closedOk}
+use Rattle.calendar.specs.Always.{conventionOn, on-as}
 use Rattle.calendar.specs.Adjust.{adjusted}
 use Rattle.calendar.specs.Calendar.{decided}
 use Rattle.steps.specs.declared.Move.{Move}
@@ -173,11 +174,11 @@ module _ (q : Request) (closed : List ℕ) (seed : ℕ) (ds : List ℕ) where
       unfolding middleUnless decided then
       seed-at-end e w = rw (← a, l, ← p ok, e, ← w) (m ok)
 
-      pub seed-within : (way : Convention) → adjusted (q .mask) closed way ≡ adjusted (q .mask) closed (q .convention) → end ≡ decided-is.No → what ≡ middleMove false way → done r ds′ ≡ middleUnless (settles q) q closed seed ds
+      pub seed-within : (way : Convention) → way ≡ conventionOn (q .mask) closed (q .convention) → end ≡ decided-is.No → what ≡ middleMove false way → done r ds′ ≡ middleUnless (settles q) q closed seed ds
       unfolding middleUnless decided then
-      seed-within way alike e w =
+      seed-within way on e w =
           rw (← a, l, ← p ok, e)
-          (rw w at (m ok) ∙ ap (λ (f : ℕ → Answer ℕ). onMiddle f ds) (move-alike (q .mask) closed way (q .convention) alike))
+          (rw w at (m ok) ∙ ap (λ (f : ℕ → Answer ℕ). onMiddle f ds) (move-alike (q .mask) closed way (q .convention) (on-as (q .mask) closed way (q .convention) on)))
 
   module _ (ok : closedOk closed ≡ true) (what : Move) (r : Done) (ds₁ : List ℕ) where
     module _ (w : what ≡ lastMove q) (p : closedOk closed ≡ true → done r ds₁ ≡ onLast (moved (q .mask) closed what) ds) where

@@ -13,8 +13,8 @@ use Rattle.date.specs.Civil.{pickN}
 use Rattle.steps.specs.declared.Request.{Request}
 use Rattle.steps.specs.Fewer.{keptFinish}
 use Rattle.steps.specs.declared.Built.{Built}
-use Rattle.steps.specs.Build.{Schedule, Written, answered, datesAfter, flagsAfter}
-use Rattle.finish.specs.Finishing.{Lent, lentRefusal, unlessRefused, completed, scheduled, refusedBuilt}
+use Rattle.steps.specs.Build.{Schedule, Written, refusedBuilt, answered, datesAfter, flagsAfter}
+use Rattle.finish.specs.Finishing.{Lent, lentRefusal, unlessRefused, completed, scheduled}
 
 module _ (work marks dates flags : ℕ) where
   pub uneven-lent : (dates ≡ flags → ⊥) → UNEVEN ≡ lentRefusal work marks dates flags

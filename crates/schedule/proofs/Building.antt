@@ -18,15 +18,15 @@ use Rattle.steps.specs.TableLaws.{accepted}
 use Rattle.steps.specs.Generate.{nothing, put, zeroDates, forward}
 use Rattle.steps.specs.Fewer.{keptBackward, keptBy, kept, keptFinish, keptSteps}
 use Rattle.steps.specs.FewerLaws.{kept-steps}
-use Rattle.steps.specs.Build.{Schedule, stepsOf, admitted, buildOf, answered, datesAfter, flagsAfter, Written}
+use Rattle.steps.specs.Build.{refusedBuilt, Schedule, stepsOf, admitted, buildOf, answered, datesAfter, flagsAfter, Written}
 use Rattle.working.specs.declared.Filled.{Filled}
 use Rattle.working.specs.declared.Filled.the-variants as filled-is
-use Rattle.backwards.specs.declared.Generated.{Generated}
-use Rattle.backwards.specs.declared.Generated.the-variants as generated-is
+use Rattle.working.specs.declared.Generated.{Generated}
+use Rattle.working.specs.declared.Generated.the-variants as generated-is
 use Rattle.working.specs.Part.{Part, held, lastPut, Filling}
-use Rattle.finish.specs.Finishing.{scheduled, Lent, refusedBuilt, completed}
+use Rattle.finish.specs.Finishing.{scheduled, Lent, completed}
 use Rattle.finish.specs.Lending.{lent-fits, completed-on}
-use Rattle.backwards.specs.Making.{Checked, generated, Lies, Generates}
+use Rattle.working.specs.Making.{Checked, generated, Lies, Generates}
 use Rattle.working.specs.Held.{put-length}
 use Rattle.working.specs.Chains.{filled-part, filled-given}
 

@@ -12,6 +12,7 @@ use mir.Val.{SFits, ofZ}
 use borrow.Author.Needs.{needs}
 use borrow.Author.Tests.{ne-eqb, eq-eqb}
 use Rattle.refusal.specs.Answer.{Answer, given}
+use Rattle.period.specs.declared.Unit.the-variants.{Days}
 use Rattle.period.specs.Signed.{abs-small}
 use Rattle.date.specs.declared.Fields.{Fields}
 use Rattle.date.specs.Civil.{fieldsOf}
@@ -21,7 +22,10 @@ use Rattle.steps.specs.declared.Rule.the-variants.{Zero}
 use Rattle.steps.specs.declared.Request.{Request}
 use Rattle.steps.specs.declared.Rule.{Rule}
 use Rattle.steps.specs.Rules.{isNone, ruleUnder, ruleInForce, isBackward}
+use Rattle.steps.specs.Table.{isGiven}
+use Rattle.steps.specs.Generate.{anchorOr}
 use Rattle.steps.specs.Finish.{seedAsked, seedAtEnd}
+use Rattle.steps.specs.Build.{refusedBuilt}
 use Rattle.steps.specs.Fewer.{settles}
 
 -- ---- lengths
@@ -86,3 +90,17 @@ module _ (monthend : Bool) (mask : ℕ) (closed : List ℕ) (seed : ℕ) where
   pub seed-asked : (r : Answer Bool) → monthend ≡ true → (seed ≡ 0 → ⊥) → r ≡ atMonthEnd mask closed seed → r ≡ seedAtEnd monthend mask closed seed
   unfolding seedAtEnd
   seed-asked r e z h = rw e (asked-of mask closed r seed z h)
+
+-- ---- anchors
+pub anchor-none : (anchor other : ℕ) → anchor ≡ 0 → other ≡ anchorOr anchor other
+unfolding anchorOr isGiven
+anchor-none anchor other e = simp (eq-eqb anchor 0 e)
+
+pub anchor-some : (anchor other : ℕ) → (anchor ≡ 0 → ⊥) → anchor ≡ anchorOr anchor other
+unfolding anchorOr isGiven
+anchor-some anchor other e = simp (ne-eqb anchor 0 e)
+
+-- ---- the record of a refusal
+pub refused-is : (n : ℕ) → record { number = n; count = 0; tries = 0; rule = Zero; tenor = record { length = pos 0; unit = Days } } ≡ refusedBuilt n
+unfolding refusedBuilt
+refused-is n = refl

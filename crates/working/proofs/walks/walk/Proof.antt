@@ -12,6 +12,7 @@ use Rattle.working.proofs.walks.walk.Tie as tie
 use Rattle.working.proofs.walks.walk.Reads as reads
 use Rattle.working.proofs.walks.walk.Lts as lts
 use Rattle.working.proofs.candidates.try_candidate.Reads as try-candidate-reads
+use Rattle.calendar.specs.Always.{on-as}
 use Rattle.calendar.proofs.search.convention_on.Reads as convention-on-reads
 use Rattle.working.proofs.lists.newest.Reads as newest-reads
 use Rattle.working.proofs.lists.put.Reads as put-reads
@@ -50,7 +51,7 @@ returns c = λ b.
     let t = c .before .before .before in
     let l = t .before in
     let way = l .before .before .before .before in
-    walk-alike _ _ _ _ (way .convention-on .ensures) _ _ _ _ _ _ _ _ _ _ _ _ (walk-stop (l .before .loop .inv .3 b) (l .loop-test .taken) _ (l .before .loop .inv .4 b) _ (t .try-candidate .ensures) (c .before .t .given .0 .0) (c .before .t .given .1))
+    walk-alike _ _ _ _ (on-as _ _ _ _ (way .convention-on .ensures)) _ _ _ _ _ _ _ _ _ _ _ _ (walk-stop (l .before .loop .inv .3 b) (l .loop-test .taken) _ (l .before .loop .inv .4 b) _ (t .try-candidate .ensures) (c .before .t .given .0 .0) (c .before .t .given .1))
 
 enum-told : tie.Need-enum-told Inv-loop μ-loop
 enum-told c = search needs
@@ -66,7 +67,7 @@ returns-2 c = λ b.
     let t = c .before .before in
     let l = t .before in
     let way = l .before .before .before .before in
-    walk-alike _ _ _ _ (way .convention-on .ensures) _ _ _ _ _ _ _ _ _ _ _ _ (walk-past (l .before .loop .inv .3 b) (l .loop-test .taken) _ (l .before .loop .inv .4 b) _ (t .try-candidate .ensures) (c .enum-told .given .1))
+    walk-alike _ _ _ _ (on-as _ _ _ _ (way .convention-on .ensures)) _ _ _ _ _ _ _ _ _ _ _ _ (walk-past (l .before .loop .inv .3 b) (l .loop-test .taken) _ (l .before .loop .inv .4 b) _ (t .try-candidate .ensures) (c .enum-told .given .1))
 
 enum-known-t-2 : tie.Need-enum-known-t-2 Inv-loop μ-loop
 enum-known-t-2 c = search needs
@@ -111,7 +112,7 @@ returns-3 c = λ b.
     let t = k .before .before in
     let l = t .before in
     let way = l .before .before .before .before in
-    walk-alike _ _ _ _ (way .convention-on .ensures) _ _ _ _ _ _ _ _ _ _ _ _ (walk-full (l .before .loop .inv .3 b) (l .loop-test .taken) _ (l .before .loop .inv .4 b) _ (t .try-candidate .ensures) _ _ _ (k .t3 .given .1) _ _ _ (p .put .ensures) (c .before .put2 .given .0 .0) (c .before .put2 .given .1))
+    walk-alike _ _ _ _ (on-as _ _ _ _ (way .convention-on .ensures)) _ _ _ _ _ _ _ _ _ _ _ _ (walk-full (l .before .loop .inv .3 b) (l .loop-test .taken) _ (l .before .loop .inv .4 b) _ (t .try-candidate .ensures) _ _ _ (k .t3 .given .1) _ _ _ (p .put .ensures) (c .before .put2 .given .0 .0) (c .before .put2 .given .1))
 
 enum-known-put-2 : tie.Need-enum-known-put-2 Inv-loop μ-loop
 enum-known-put-2 c = search needs
@@ -143,7 +144,7 @@ same-length-8 : tie.Need-same-length-8 Inv-loop μ-loop
 same-length-8 c = search needs
 
 returns-4 : tie.Need-returns-4 Inv-loop μ-loop
-returns-4 c = λ b. walk-alike _ _ _ _ (c .before .before .before .before .convention-on .ensures) _ _ _ _ _ _ _ _ _ _ _ _ (walk-out (c .before .loop .inv .3 b) (c .loop-test .left))
+returns-4 c = λ b. walk-alike _ _ _ _ (on-as _ _ _ _ (c .before .before .before .before .convention-on .ensures)) _ _ _ _ _ _ _ _ _ _ _ _ (walk-out (c .before .loop .inv .3 b) (c .loop-test .left))
 
 pub walk-spec : {M : Type 1} → statement M
 walk-spec =
