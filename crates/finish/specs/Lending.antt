@@ -57,7 +57,7 @@ lent-fits l = let m = l .most in let f = l .fits in room-for _ _ _ _ (l .even) (
 
 -- ---- what was written
 pub written-refused : (q : Request) (n : ℕ) (r : Built) (dates flags : List ℕ) → r ≡ refusedBuilt n → Written q (refused n) r dates flags dates flags
-unfolding answered datesAfter flagsAfter refusedBuilt
+unfolding answered datesAfter flagsAfter
 written-refused q n r dates flags e = record { answer = e; dates-after = refl; flags-after = refl }
 
 pub written-as : (q : Request) (o o′ : Answer Schedule) (r : Built) (dates flags dates′ flags′ : List ℕ) → o ≡ o′ → Written q o r dates flags dates′ flags′ → Written q o′ r dates flags dates′ flags′

@@ -37,13 +37,13 @@ count-refused b r e h = h ∙ sym (ap (λ (t : Bool). cond t (pos (b .count)) (n
 
 -- of a build it is the outcome's
 pub count-answered : (q : Request) (o : Answer Schedule) → countIn (answered q o) ≡ oneNumber howMany o
-unfolding countIn answered refusedBuilt oneNumber howMany
+unfolding countIn answered oneNumber howMany
 count-answered q (given s) = refl
 count-answered q (refused zero) = refl
 count-answered q (refused (suc n)) = simp (ne-eqb (suc n) 0 (λ z. omega (arith, z)))
 
 pub count-unasked : (n : ℕ) → countIn (refusedBuilt n) ≡ oneNumber howMany (refused n)
-unfolding countIn refusedBuilt oneNumber
+unfolding countIn oneNumber
 count-unasked zero = refl
 count-unasked (suc n) = simp (ne-eqb (suc n) 0 (λ z. omega (arith, z)))
 

@@ -12,7 +12,7 @@ use borrow.Author.Tests.{leb-true}
 use Rattle.refusal.specs.Answer.{Answer, given, refused}
 use Rattle.steps.specs.declared.Request.{Request}
 use Rattle.steps.specs.declared.Built.{Built}
-use Rattle.steps.specs.Build.{Schedule, buildOf, refusedBuilt, answered, over, datesAfter, flagsAfter, Written}
+use Rattle.steps.specs.Build.{Schedule, buildOf, answered, over, datesAfter, flagsAfter, Written}
 use Rattle.request.specs.declared.Decoded.{Decoded}
 use Rattle.request.specs.declared.Decoded.the-variants as decoded-is
 use Rattle.request.specs.Format.{Asked, decoded}
@@ -97,7 +97,7 @@ over-length new old = omega (arith, length-append new (drop (length new) old))
 -- ---- a build
 module _ {q : Request} {r : Built} {dates flags dates′ flags′ : List ℕ} where
   shown-built : (o : Answer Schedule) → Written q o r dates flags dates′ flags′ → Zeros flags → shownText r dates′ flags′ ≡ builtText o
-  unfolding shownText builtText byNumber answered refusedBuilt datesAfter flagsAfter scheduleText lines
+  unfolding shownText builtText byNumber answered datesAfter flagsAfter scheduleText lines
   shown-built (given s) w z =
       rw (w .answer, w .dates-after, w .flags-after, take-over (s .dates) dates)
       (text-alike (s .tries) (s .dates) (over (s .flags) flags) (s .flags) (over-zeros (s .flags) flags z))
@@ -105,7 +105,7 @@ module _ {q : Request} {r : Built} {dates flags dates′ flags′ : List ℕ} wh
   shown-built (refused (suc n)) w z = rw (w .answer)
 
   pub built-count : (o : Answer Schedule) → Written q o r dates flags dates′ flags′ → r .count ≤ length dates′
-  unfolding answered refusedBuilt datesAfter
+  unfolding answered datesAfter
   built-count (given s) w = rw (w .answer, w .dates-after) (over-length (s .dates) dates)
   built-count (refused n) w = rw (w .answer) (omega arith)
 

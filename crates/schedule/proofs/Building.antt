@@ -85,7 +85,7 @@ module _ (l : List ℕ) (at n end : ℕ) (size : length l ≡ 4096) (e : end ≡
 
 -- ---- refusals, and what was generated
 pub refusal-written : (q : Request) (o : Answer Schedule) (k : ℕ) (r : Built) (dates flags : List ℕ) → r ≡ refusedBuilt k → refused k ≡ o → Written q o r dates flags dates flags
-unfolding refusedBuilt answered datesAfter flagsAfter
+unfolding answered datesAfter flagsAfter
 refusal-written q o k r dates flags b e = rw (← e) (record { answer = b; dates-after = refl; flags-after = refl })
 
 module _ (q : Request) (closed : List ℕ) (lent : ℕ) {room : ℕ} {g : Generated} {work marks : List ℕ} (p : Generates room (kept q closed room) g work marks) (least : room ≡ min lent 4096) where
