@@ -16,10 +16,11 @@ use Rattle.steps.specs.declared.Pace.{Pace}
 use Rattle.steps.specs.declared.Seed.{Seed}
 use Rattle.steps.specs.Candidates.{Turn, past, keep, candidate, turnOf}
 use Rattle.steps.specs.Generate.{Walk, Made, nothing, newest, onto, put, putNew, madeBack, lastTry, walk}
+use Rattle.outcomes.specs.Span.{le-or-lt, InSpan}
 use Rattle.plain.specs.Listed.{_∈_, Ascending}
 use Rattle.plain.specs.Listed as listed
-use Rattle.plain.specs.Chain.{le-or-lt, ones, chain, chain-length, chain-first, in-chain, from-chain, chain-up, linked, put-fits, put-full, walk-fits, walk-full}
-use Rattle.plain.specs.Turns.{InSpan, turn-keeps, turn-ends, new-same, new-put}
+use Rattle.plain.specs.Chain.{ones, chain, chain-length, chain-first, in-chain, from-chain, chain-up, linked, put-fits, put-full, walk-fits, walk-full}
+use Rattle.plain.specs.Turns.{turn-keeps, turn-ends, new-same, new-put}
 
 -- the date of an answer
 abbrev pub dayOr : Answer ℕ → ℕ

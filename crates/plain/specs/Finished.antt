@@ -17,9 +17,9 @@ use Rattle.steps.specs.declared.Move.the-variants.{Adjust}
 use Rattle.steps.specs.declared.Request.{Request}
 use Rattle.steps.specs.Rules.{ruleInForce, isOldCDS, isCredit}
 use Rattle.steps.specs.Finish.{moved, each, between, onFirst, onLast, onMiddle, wednesdays, unless, firstMove, lastMove, middleMove, seedAtEnd, adjustments, meetAtEnd, mergeEndIf, mergeEnd, meetAtFront, mergeFrontIf, mergeFront, finish}
+use Rattle.outcomes.specs.Span.{le-or-lt, InSpan}
 use Rattle.plain.specs.Listed.{_∈_, Ascending, ascending-at}
-use Rattle.plain.specs.Chain.{le-or-lt}
-use Rattle.plain.specs.Turns.{InSpan, stays}
+use Rattle.plain.specs.Turns.{stays}
 
 -- ---- a list in parts
 in-take : (k d : ℕ) (ds : List ℕ) → d ∈ take k ds → d ∈ ds

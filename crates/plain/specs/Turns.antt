@@ -12,10 +12,7 @@ use Rattle.steps.specs.declared.Pace.{Pace}
 use Rattle.steps.specs.declared.Seed.{Seed}
 use Rattle.steps.specs.Candidates.{past, keep, candidate, isPast, unlessSame, unlessPast, turnOf}
 use Rattle.steps.specs.Generate.{Lists, newest, put, putUnless, putNew}
-
-pub record InSpan (n : ℕ) : Type 0 where
-  pub low : 657072 ≤ n
-  pub high : n ≤ 876216
+use Rattle.outcomes.specs.Span.{InSpan}
 
 module _ (mask : ℕ) (closed : List ℕ) where
   pub stays : (day : ℕ) → InSpan day → adjusted mask closed Unadjusted day ≡ given day

@@ -13,6 +13,7 @@ use Rattle.refusal.specs.Answer.{Answer, given, refused}
 use Rattle.steps.specs.declared.Request.{Request}
 use Rattle.steps.specs.declared.Built.{Built}
 use Rattle.steps.specs.Build.{Schedule, buildOf, answered, over, datesAfter, flagsAfter, Written}
+use Rattle.outcomes.specs.Refusals.{never-zero}
 use Rattle.request.specs.declared.Decoded.{Decoded}
 use Rattle.request.specs.declared.Decoded.the-variants as decoded-is
 use Rattle.request.specs.Format.{Asked, decoded}
@@ -96,13 +97,14 @@ over-length new old = omega (arith, length-append new (drop (length new) old))
 
 -- ---- a build
 module _ {q : Request} {r : Built} {dates flags dates′ flags′ : List ℕ} where
-  shown-built : (o : Answer Schedule) → Written q o r dates flags dates′ flags′ → Zeros flags → shownText r dates′ flags′ ≡ builtText o
+  -- the number tells, as no build is refused 0
+  shown-built : (o : Answer Schedule) → (o ≡ refused 0 → ⊥) → Written q o r dates flags dates′ flags′ → Zeros flags → shownText r dates′ flags′ ≡ builtText o
   unfolding shownText builtText byNumber answered datesAfter flagsAfter scheduleText lines
-  shown-built (given s) w z =
+  shown-built (given s) n w z =
       rw (w .answer, w .dates-after, w .flags-after, take-over (s .dates) dates)
       (text-alike (s .tries) (s .dates) (over (s .flags) flags) (s .flags) (over-zeros (s .flags) flags z))
-  shown-built (refused zero) w z = rw (w .answer)
-  shown-built (refused (suc n)) w z = rw (w .answer)
+  shown-built (refused zero) n w z = absurd (n refl)
+  shown-built (refused (suc k)) n w z = rw (w .answer)
 
   pub built-count : (o : Answer Schedule) → Written q o r dates flags dates′ flags′ → r .count ≤ length dates′
   unfolding answered datesAfter
@@ -114,14 +116,13 @@ module _ {q : Request} {r : Built} {dates flags dates′ flags′ : List ℕ} wh
   built-short (given s) w h =
       let d : dates′ ≡ over (s .dates) dates = w .dates-after in
       schedule-fits (s .tries) (s .dates) (s .flags) (omega (arith, over-length (s .dates) dates, ap length d))
-  built-short (refused zero) w h = schedule-fits 0 [] [] (omega arith)
-  built-short (refused (suc n)) w h = refusal-fits (suc n)
+  built-short (refused n) w h = refusal-fits n
 
   pub built-replies : (closed : List ℕ) {old new : List ℕ} {end : ℕ} → length dates ≡ 4096 → length flags ≡ 4096 → Zeros flags → length dates′ ≡ length dates → Written q (buildOf q closed (length dates) (length flags)) r dates flags dates′ flags′ → Put (fitting (shownText r dates′ flags′) (length old)) 0 old end new → Replies (builtText (buildOf q closed 4096 4096)) old end new
   built-replies closed {old} {new} {end} d f z k w p =
       let v : Written q (buildOf q closed 4096 4096) r dates flags dates′ flags′ = rw (d, f) at w in
       record {
-        put = rw (shown-built (buildOf q closed 4096 4096) v z) at p;
+        put = rw (shown-built (buildOf q closed 4096 4096) (never-zero q closed 4096 4096) v z) at p;
         within = put-within _ p;
         short = built-short (buildOf q closed 4096 4096) v (omega arith);
       }

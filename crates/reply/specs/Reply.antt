@@ -1,8 +1,8 @@
 -- Document 01, "Request bytes and the program": what the program prints of the bytes that it is given.
 -- Assumes nothing.
-use Prim.Native.Nat.{ℕ, zero, suc, _≤_}
+use Prim.Native.Nat.{ℕ, _≤_}
 use mathlib.Core.Path.{_≡_}
-use mathlib.Core.List.{List, []}
+use mathlib.Core.List.{List}
 use lib.ListN.{length, getD}
 use Rattle.refusal.specs.Answer.{Answer, given, refused}
 use Rattle.steps.specs.Build.{Schedule, buildOf}
@@ -14,11 +14,10 @@ use Rattle.printing.specs.Put.{Put, fitting}
 abbrev pub PLACES : ℕ
 PLACES = 4096
 
--- what is printed of a build, by its number, of which 0 is no refusal
+-- what is printed of a build
 unfoldable pub builtText : Answer Schedule → List ℕ
 builtText (given s) = scheduleText (s .tries) (s .dates) (s .flags)
-builtText (refused zero) = scheduleText 0 [] []
-builtText (refused (suc n)) = refusalText (suc n)
+builtText (refused n) = refusalText n
 
 unfoldable pub askedText : Answer Asked → List ℕ
 askedText (given a) = builtText (buildOf (a .request) (a .closed) PLACES PLACES)
