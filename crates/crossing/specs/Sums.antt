@@ -5,6 +5,7 @@ use mathlib.Core.Path.{_≡_, refl}
 use mathlib.Core.List.{[], _∷_}
 use lib.IntN.{pos, negsuc, pos-ne-negsuc}
 use Rattle.refusal.specs.Answer.{Answer, given, refused, need}
+use Rattle.refusal.specs.Refusals.{refusals, pick, ofNumber, letters, nameOfNumber}
 use Rattle.period.specs.declared.Unit.{Unit}
 use Rattle.period.specs.declared.Unit.the-variants.{Days, Weeks, Months, Years}
 use Rattle.date.specs.Date.{inBook, compareOf}
@@ -12,7 +13,7 @@ use Rattle.steps.specs.declared.Rule.{Rule}
 use Rattle.steps.specs.declared.Rule.the-variants.{Zero, Backward, Forward, Twentieth, TwentiethIMM, ThirdWednesday, ThirdWednesdayInclusive, OldCDS, CDS, CDS2015}
 use Rattle.steps.specs.Rules.{ruleNumber}
 use Rattle.crossing.specs.Answers.{oneNumber, place}
-use Rattle.crossing.specs.Names.{letters, names, nameAt, nameOf}
+use Rattle.crossing.specs.Names.{nameOf}
 use Rattle.crossing.specs.Numbers.{atPlace, unitOf, ruleOf, flagOf, unitNumber}
 
 -- an answer below zero is a refusal, and its number is the refusal's
@@ -58,11 +59,11 @@ no-flag-two = refl
 
 -- refusal 2 is BOOK; there is no refusal 18, and a value has no name
 pub book-named : nameOf (negsuc 1) ≡ 66 ∷ 79 ∷ 79 ∷ 75 ∷ []
-unfolding nameOf nameAt names letters
+unfolding nameOf nameOfNumber ofNumber pick refusals letters
 book-named = refl
 
 pub no-eighteenth : nameOf (negsuc 17) ≡ []
-unfolding nameOf nameAt names
+unfolding nameOf nameOfNumber ofNumber pick refusals
 no-eighteenth = refl
 
 pub value-unnamed : (n : ℕ) → nameOf (pos n) ≡ []
