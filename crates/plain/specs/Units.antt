@@ -12,7 +12,7 @@ use Rattle.refusal.specs.Laws.{need-given}
 use Rattle.period.specs.declared.Unit.{Unit as TimeUnit}
 use Rattle.period.specs.declared.Unit.the-variants.{Days, Weeks, Months, Years}
 use Rattle.date.specs.Civil.{fieldsOf, monthLength, dayNumber}
-use Rattle.date.specs.Date.{inBook, withinSpan, step, monthIndex, inMonth, shiftDays, shiftMonths, shifted}
+use Rattle.date.specs.Date.{SPAN-FIRST, SPAN-LAST, inBook, withinSpan, step, monthIndex, inMonth, shiftDays, shiftMonths, shifted}
 use Rattle.date.specs.Round.{fields-valid, day-of-fields}
 use Rattle.date.specs.Made.{make-ok, made, made-within}
 use Rattle.date.specs.Moves.{span-in, book-from, book-le}
@@ -23,13 +23,13 @@ use Rattle.plain.specs.Turns.{InSpan}
 use Rattle.plain.specs.Falling.{dayOr}
 use Rattle.plain.specs.Count.{Line}
 
-span-is : (n d : ℕ) → withinSpan n ≡ given d → (657072 ≤ n) × (n ≤ 876216) × (d ≡ n)
+span-is : (n d : ℕ) → withinSpan n ≡ given d → (SPAN-FIRST ≤ n) × (n ≤ SPAN-LAST) × (d ≡ n)
 unfolding withinSpan
 span-is n d h =
-    let a = need-given BOOK (leb 657072 n) _ d h in
-    let b = need-given BOOK (leb n 876216) _ d (a .1) in
+    let a = need-given BOOK (leb SPAN-FIRST n) _ d h in
+    let b = need-given BOOK (leb n SPAN-LAST) _ d (a .1) in
     let q = b .1 in
-    (leb-true 657072 n (a .0), leb-true n 876216 (b .0), ap dayOr (sym q))
+    (leb-true SPAN-FIRST n (a .0), leb-true n SPAN-LAST (b .0), ap dayOr (sym q))
 
 -- a day taken is one of the span
 day-span : (n d : ℕ) → withinSpan n ≡ given d → InSpan d
@@ -78,11 +78,11 @@ since n h =
 
 module _ (e t n : ℕ) (from : inBook e ≡ true) (order : e ≤ t) (to : inBook t ≡ true) where
   -- ---- days
-  days-at : (x d : ℕ) → shifted t true x Days ≡ given d → (657072 ≤ t - x) × (t - x ≤ 876216) × (d ≡ t - x)
+  days-at : (x d : ℕ) → shifted t true x Days ≡ given d → (SPAN-FIRST ≤ t - x) × (t - x ≤ SPAN-LAST) × (d ≡ t - x)
   unfolding shifted shiftDays step
   days-at x d h = span-is (t - x) d h
 
-  pub days-are : (x : ℕ) → 657072 ≤ t - x → shifted t true x Days ≡ given (t - x)
+  pub days-are : (x : ℕ) → SPAN-FIRST ≤ t - x → shifted t true x Days ≡ given (t - x)
   unfolding shifted shiftDays step
   days-are x h = sym (span-in (t - x) h (omega (arith, book-le t to)))
 
