@@ -14,14 +14,14 @@ use Rattle.date.specs.Date.{monthIndex}
 use Rattle.date.specs.Moves.{nth-of, until-at}
 use Rattle.calendar.specs.declared.Convention.{Convention}
 use Rattle.calendar.specs.declared.Convention.the-variants.{Unadjusted, Following, ModifiedFollowing, Preceding, ModifiedPreceding}
-use Rattle.calendar.specs.Adjust.{conventionOf}
+use Rattle.calendar.specs.Adjust.{conventionNumber}
 use Rattle.steps.specs.declared.Rule.{Rule}
-use Rattle.steps.specs.declared.Rule.the-variants.{Zero, Backward, Forward, Twentieth, TwentiethIMM, ThirdWednesday, ThirdWednesdayInclusive, OldCDS, CDS, CDS2015}
+use Rattle.steps.specs.declared.Rule.the-variants.{ThirdWednesday, ThirdWednesdayInclusive}
 use Rattle.steps.specs.declared.Request.{Request}
 use Rattle.steps.specs.declared.Move.{Move}
 use Rattle.steps.specs.declared.Move.the-variants.{Stay, ThirdWednesdays, Adjust, MonthEnds, OpenMonthEnds}
-use Rattle.steps.specs.Rules.{ruleInForce, isOldCDS, isCredit}
-use Rattle.steps.specs.Finish.{thirdWednesday, moved, each, between, onFirst, onLast, onMiddle, wednesdays, unless, firstMove, lastMove, monthEndMove, middleMove, seedAsked, seedAtEnd, adjustments, meetAtFront, mergeEnd, mergeFrontIf, mergeFront, finish}
+use Rattle.steps.specs.Rules.{oneOf, ruleInForce, isOldCDS, isCredit}
+use Rattle.steps.specs.Finish.{thirdWednesday, moved, each, between, onFirst, onLast, onMiddle, wednesdaysBy, wednesdays, unless, firstMove, lastMove, monthEndMove, middleMove, seedAsked, seedAtEnd, adjustments, meetAtFront, mergeEnd, mergeFrontIf, mergeFront, finish}
 use Rattle.outcomes.specs.Late.{by-merge, Fine, Any, gives, steps, weaker, other}
 use Rattle.outcomes.specs.Searched.{Asks, adjusts}
 use Rattle.outcomes.specs.Days.{InMonth, At, at-more, month-close, made-fine, last-fine, adjust-fine, open-end-fine, end-fine}
@@ -47,7 +47,7 @@ module _ {c : Type 0} where
   unless-asks false convention h = to-adjusted h
 
   ends-ask : (convention : Convention) → Asks c convention → MoveAsks c (monthEndMove convention)
-  unfolding monthEndMove conventionOf
+  unfolding monthEndMove conventionNumber
   ends-ask Unadjusted h = to-end
   ends-ask Following h = to-open-end (h (adjusts Following (omega arith)))
   ends-ask ModifiedFollowing h = to-open-end (h (adjusts ModifiedFollowing (omega arith)))
@@ -117,17 +117,13 @@ module _ {c : Type 0} where
   stays ds a = gives ds (each-weaker (At 0) (At 62) ds (λ d i. at-more 0 62 d (omega arith) i) a)
 
   wednesdays-fine : (rule : Rule) (mask : ℕ) (closed ds : List ℕ) → Each (At 0) ds → Fine c (Each (At 62)) (wednesdays rule mask closed ds)
-  unfolding wednesdays
-  wednesdays-fine Zero mask closed ds a = stays ds a
-  wednesdays-fine Backward mask closed ds a = stays ds a
-  wednesdays-fine Forward mask closed ds a = stays ds a
-  wednesdays-fine Twentieth mask closed ds a = stays ds a
-  wednesdays-fine TwentiethIMM mask closed ds a = stays ds a
-  wednesdays-fine ThirdWednesday mask closed ds a = middle-fine mask closed 0 (omega arith) ds a ThirdWednesdays to-wednesday
-  wednesdays-fine ThirdWednesdayInclusive mask closed ds a = all-fine mask closed 0 (omega arith) ds a ThirdWednesdays to-wednesday
-  wednesdays-fine OldCDS mask closed ds a = stays ds a
-  wednesdays-fine CDS mask closed ds a = stays ds a
-  wednesdays-fine CDS2015 mask closed ds a = stays ds a
+  unfolding wednesdays wednesdaysBy
+  wednesdays-fine rule mask closed ds a = by (oneOf rule (ThirdWednesday ∷ [])) (oneOf rule (ThirdWednesdayInclusive ∷ []))
+    where
+      by : (middle all-of : Bool) → Fine c (Each (At 62)) (wednesdaysBy middle all-of mask closed ds)
+      by true all-of = middle-fine mask closed 0 (omega arith) ds a ThirdWednesdays to-wednesday
+      by false true = all-fine mask closed 0 (omega arith) ds a ThirdWednesdays to-wednesday
+      by false false = stays ds a
 
   seed-fine : (b : Bool) (mask : ℕ) (closed : List ℕ) (seed : ℕ) → (b ≡ true → c) → SeedIs seed → Fine c Any (seedAtEnd b mask closed seed)
   unfolding seedAtEnd seedAsked

@@ -12,11 +12,11 @@ use lib.IntN.{natAbs}
 use borrow.Author.Tests.{ne-eqb}
 use Rattle.refusal.specs.Answer.{ROOM}
 use Rattle.refusal.specs.Laws.{both}
-use Rattle.date.specs.Date.{inBook}
+use Rattle.date.specs.Date.{SPAN-LAST, inBook}
 use Rattle.date.specs.Moves.{book-from}
 use Rattle.calendar.specs.Calendar.{tenorOk}
 use Rattle.steps.specs.declared.Request.{Request}
-use Rattle.steps.specs.Rules.{ruleUnder, isNone, ruleInForce, isZero, isBackward, isCredit, onTwentieths, paceOf}
+use Rattle.steps.specs.Rules.{ruleNumber, oneOf, ruleUnder, isNone, ruleInForce, isZero, isBackward, isCredit, onTwentieths, paceOf}
 use Rattle.steps.specs.Table.{firstRow, isGiven, anchorOk, datesOk, inputRows}
 use Rattle.steps.specs.TableLaws.{accepted}
 use Rattle.steps.specs.Twentieths.{nextTwentieth}
@@ -100,7 +100,7 @@ module _ (q : Request) (closed : List ℕ) (room : ℕ) (k : Passed q) where
   module _ (p : PaceOk (paceOf (q .tenor))) where
     loop-fine : (back : Bool) (seed exit : ℕ) (m : Lists) → Mid seed → inBook exit ≡ true → ((monthly : Bool) (n : ℕ) → n ≡ 0 → Reach monthly back (seedOf (q .monthend) seed) n) → Good m → Fine (Searches q) GoodWalk (candidates q closed room back seed exit m)
     unfolding candidates lastTry
-    loop-fine back seed exit m s b h g = walk-fine (seedOf (q .monthend) seed) (seed-ok (q .monthend) seed s) (q .mask) closed (q .convention) for-convention back (paceOf (q .tenor)) p exit b room 876216 0 m (omega arith) g (h (paceOf (q .tenor) .monthly) _ (zero-mul _))
+    loop-fine back seed exit m s b h g = walk-fine (seedOf (q .monthend) seed) (seed-ok (q .monthend) seed s) (q .mask) closed (q .convention) for-convention back (paceOf (q .tenor)) p exit b room SPAN-LAST 0 m (omega arith) g (h (paceOf (q .tenor) .monthly) _ (zero-mul _))
 
     -- ---- Backward
     penultimate-fine : (anchor : ℕ) (m : Lists) → anchorOk anchor ≡ true → Good m → Fine (Searches q) Good (putPenultimate (paceOf (q .tenor)) (seedOf (q .monthend) (q .termination .day)) room anchor m)
@@ -228,7 +228,7 @@ module _ (q : Request) (closed : List ℕ) (room : ℕ) (k : Passed q) where
 
   -- ---- by the rule in force: under another than Zero the tenor is not empty
   some-tenor : isZero (ruleInForce q) ≡ false → 1 ≤ natAbs (q .tenor .length)
-  unfolding ruleInForce ruleUnder isNone isZero
+  unfolding ruleInForce ruleUnder isNone isZero oneOf ruleNumber
   some-tenor h = ⊎-elim (λ (i : 1 ≤ natAbs (q .tenor .length)). i) (λ (i : natAbs (q .tenor .length) < 1). absurd (no (omega arith))) (le-or-lt 1 (natAbs (q .tenor .length)))
     where
       no : natAbs (q .tenor .length) ≡ 0 → ⊥

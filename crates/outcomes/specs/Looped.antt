@@ -12,7 +12,7 @@ use Rattle.refusal.specs.Answer.{Answer, given}
 use Rattle.period.specs.declared.Unit.{Unit as TimeUnit}
 use Rattle.period.specs.declared.Unit.the-variants.{Days, Weeks, Months, Years}
 use Rattle.date.specs.Civil.{fieldsOf, pickN}
-use Rattle.date.specs.Date.{inBook, monthIndex, step}
+use Rattle.date.specs.Date.{SPAN-LAST, inBook, monthIndex, step}
 use Rattle.date.specs.Round.{fields-valid}
 use Rattle.date.specs.Moves.{book-from, book-le}
 use Rattle.imm.specs.Order.{month-le}
@@ -82,7 +82,7 @@ module _ (seed : Seed) (s : SeedOk seed) where
   candidate-fine true false x n y l e h = month-fine (seed .month + y) (seed .keep) (s .day) (omega (arith, s .month, s .mid .from)) (omega arith)
 
   -- there are few
-  few : (monthly back : Bool) (x : ℕ) → Reach monthly back seed x → x < 876216
+  few : (monthly back : Bool) (x : ℕ) → Reach monthly back seed x → x < SPAN-LAST
   few false true x h = omega (arith, seed-at .high)
   few false false x h = omega arith
   few true true x h = omega (arith, s .month, s .mid .to)
@@ -141,10 +141,10 @@ module _ (seed : Seed) (s : SeedOk seed) where
     on-fine skip i l again g h s = s l g h
     on-fine (keep d) i l again g h s = steps _ (put-fine room d 1 l (h .0) (g .all)) (λ m n. s m n (h .1))
 
-    pub walk-fine : (left i : ℕ) (l : Lists) → i + left ≡ 876216 → Good l → Reach (pace .monthly) back seed (i * pace .size) → Fine c GoodWalk (walk turn room left (suc i) l)
+    pub walk-fine : (left i : ℕ) (l : Lists) → i + left ≡ SPAN-LAST → Good l → Reach (pace .monthly) back seed (i * pace .size) → Fine c GoodWalk (walk turn room left (suc i) l)
     unfolding walk
     walk-fine zero i l e g h = absurd (no (few (pace .monthly) back (i * pace .size) h))
       where
-        no : i * pace .size < 876216 → ⊥
+        no : i * pace .size < SPAN-LAST → ⊥
         no f = omega (arith, le-mul-of-pos-right {m = pace .size} i (p .some))
     walk-fine (suc left) i l e g h = steps _ (turn-fine (newest l) i (g .front) h) (λ t n. on-fine t i l (walk turn room left (suc (suc i))) g n (λ m j k. walk-fine left (suc i) m (omega arith) j k))

@@ -12,7 +12,7 @@ use Rattle.refusal.specs.Answer.{refused, BOOK, CLOSED, ROOM}
 use Rattle.calendar.specs.declared.Convention.the-variants.{Unadjusted}
 use Rattle.steps.specs.declared.Request.{Request}
 use Rattle.steps.specs.Table.{inputRows}
-use Rattle.steps.specs.TableLaws.{NoneHolds, FirstHolds, refused-exactly, accepted-exactly}
+use Rattle.steps.specs.TableLaws.{NoneHolds, FirstHolds, refused-exactly, accepted-exactly, input-numbered}
 use Rattle.steps.specs.Generate.{Lists, lastTry, candidates}
 use Rattle.steps.specs.Build.{buildOf}
 use Rattle.outcomes.specs.Late.{Late}
@@ -29,8 +29,8 @@ module _ (q : Request) (closed : List ℕ) where
     first-row-or-late n h = by (reason q closed dates flags n h)
       where
         by : Reason q closed dates flags n → FirstHolds (inputRows q closed dates flags) n ⊎ (NoneHolds (inputRows q closed dates flags) × Late (Searches q) n)
-        by (early e a b) = inl (refused-exactly q closed dates flags n (λ z. omega arith) .0 e)
-        by (late e l) = inr (accepted-exactly q closed dates flags .0 e, l)
+        by (early e a b) = inl (refused-exactly (inputRows q closed dates flags) (input-numbered q closed dates flags) n (λ z. omega arith) .0 e)
+        by (late e l) = inr (accepted-exactly (inputRows q closed dates flags) (input-numbered q closed dates flags) .0 e, l)
 
     -- so with a number of 01's rows 1 to 15, and never with 0
     pub one-to-fifteen : (n : ℕ) → buildOf q closed dates flags ≡ refused n → (1 ≤ n) × (n ≤ 15)
@@ -48,7 +48,7 @@ module _ (q : Request) (closed : List ℕ) where
     never-outside a h = by (reason q closed dates flags BOOK h)
       where
         by : Reason q closed dates flags BOOK → ⊥
-        by (early e _ _) = omega (arith, accepted-exactly q closed dates flags .1 a)
+        by (early e _ _) = omega (arith, accepted-exactly (inputRows q closed dates flags) (input-numbered q closed dates flags) .1 a)
         by (late e l) = omega (arith, late-number l .0)
 
     -- ---- 3: refused 13 only where the calendar is searched; so never under Unadjusted, end of month off, unless the flag of a first date steps open days
@@ -76,4 +76,4 @@ module _ (q : Request) (closed : List ℕ) where
 
   -- ---- 5: more candidates than the definition looks at give the same, wherever a build that passes the checks enters its loop
   pub more-candidates : (dates flags room more : ℕ) → NoneHolds (inputRows q closed dates flags) → {back : Bool} {seed exit : ℕ} {l : Lists} → Enters q closed room back seed exit l → candidatesIn (lastTry + more) q closed room back seed exit l ≡ candidates q closed room back seed exit l
-  more-candidates dates flags room more h i = bound.bound-suffices q closed dates flags room (accepted-exactly q closed dates flags .1 h) i more
+  more-candidates dates flags room more h i = bound.bound-suffices q closed dates flags room (accepted-exactly (inputRows q closed dates flags) (input-numbered q closed dates flags) .1 h) i more

@@ -11,6 +11,7 @@ use lib.ListN.{length}
 use borrow.Author.Tests.{lt-ltb, ltb-true, ltb-false}
 use Rattle.refusal.specs.Answer.{Answer, given, refused, need, then, BOOK, ROOM}
 use Rattle.refusal.specs.Laws.{never-both, one-given}
+use Rattle.date.specs.Date.{SPAN-LAST}
 use Rattle.calendar.specs.declared.Convention.{Convention}
 use Rattle.steps.specs.declared.Request.{Request}
 use Rattle.steps.specs.declared.Pace.{Pace}
@@ -153,7 +154,7 @@ module _ (r r′ : ℕ) (more : r ≤ r′) where
 
     loops : (back : Bool) (seed exit : ℕ) (l : Lists) → many l ≤ 3 → Under r walked 876220 (candidates q closed r back seed exit l) (candidates q closed r′ back seed exit l)
     unfolding candidates lastTry
-    loops back seed exit l h = walks _ (λ front k. turn-free (q .mask) closed (q .convention) back _ _ exit front k) 876216 1 l (omega arith)
+    loops back seed exit l h = walks _ (λ front k. turn-free (q .mask) closed (q .convention) back _ _ exit front k) SPAN-LAST 1 l (omega arith)
 
     shuts : (l : Lists) → many l ≤ 876220 → Under r many 876222 (shut q closed r l) (shut q closed r′ l)
     unfolding shut

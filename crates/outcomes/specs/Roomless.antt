@@ -17,17 +17,17 @@ use Rattle.calendar.specs.declared.Convention.the-variants.{Unadjusted, Followi
 use Rattle.calendar.specs.Open.{isOpen}
 use Rattle.calendar.specs.Adjust.{takenOr, firstOpen, found, sameMonth, unlessLeft, modified, byConvention, adjusted, lastOpen, atMonthEnd, openSteps, endAsked, landed, addMonths, addWeeks, byUnit, advanced}
 use Rattle.steps.specs.declared.Rule.{Rule}
-use Rattle.steps.specs.declared.Rule.the-variants.{Zero, Backward, Forward, Twentieth, TwentiethIMM, ThirdWednesday, ThirdWednesdayInclusive, OldCDS, CDS, CDS2015}
+use Rattle.steps.specs.declared.Rule.the-variants.{ThirdWednesday, ThirdWednesdayInclusive}
 use Rattle.steps.specs.declared.Request.{Request}
 use Rattle.steps.specs.declared.Pace.{Pace}
 use Rattle.steps.specs.declared.Seed.{Seed}
 use Rattle.steps.specs.declared.Move.{Move}
 use Rattle.steps.specs.declared.Move.the-variants.{Stay, ThirdWednesdays, Adjust, MonthEnds, OpenMonthEnds}
-use Rattle.steps.specs.Rules.{ruleInForce, inImmMonths}
+use Rattle.steps.specs.Rules.{oneOf, ruleInForce, inImmMonths}
 use Rattle.steps.specs.Twentieths.{twentiethOf, movedIf, toImmMonth, nextTwentieth, previousTwentieth}
 use Rattle.steps.specs.Candidates.{candidateBy, candidate, isPast, unlessPast, turnOf}
 use Rattle.steps.specs.Generate.{tenorOn, farEnough, isNear, comingTwentieth, closingDay}
-use Rattle.steps.specs.Finish.{thirdWednesday, moved, each, between, onFirst, onLast, onMiddle, wednesdays, seedAsked, seedAtEnd, adjustments, mergeFrontIf, mergeFront, finish}
+use Rattle.steps.specs.Finish.{thirdWednesday, moved, each, between, onFirst, onLast, onMiddle, wednesdaysBy, wednesdays, seedAsked, seedAtEnd, adjustments, mergeFrontIf, mergeFront, finish}
 
 pub record Free {A : Type 0} (x : Answer A) : Type 0 where
   pub never : x ≡ refused ROOM → ⊥
@@ -185,17 +185,13 @@ module _ (mask : ℕ) (closed : List ℕ) where
   part m a b ds = steps _ (all m (take (b - a) (drop a ds))) (λ ys. gives _)
 
   wednesday : (rule : Rule) (ds : List ℕ) → Free (wednesdays rule mask closed ds)
-  unfolding wednesdays onMiddle
-  wednesday Zero ds = gives ds
-  wednesday Backward ds = gives ds
-  wednesday Forward ds = gives ds
-  wednesday Twentieth ds = gives ds
-  wednesday TwentiethIMM ds = gives ds
-  wednesday ThirdWednesday ds = part ThirdWednesdays _ _ ds
-  wednesday ThirdWednesdayInclusive ds = all ThirdWednesdays ds
-  wednesday OldCDS ds = gives ds
-  wednesday CDS ds = gives ds
-  wednesday CDS2015 ds = gives ds
+  unfolding wednesdays wednesdaysBy onMiddle
+  wednesday rule ds = by (oneOf rule (ThirdWednesday ∷ [])) (oneOf rule (ThirdWednesdayInclusive ∷ []))
+    where
+      by : (middle all-of : Bool) → Free (wednesdaysBy middle all-of mask closed ds)
+      by true all-of = part ThirdWednesdays _ _ ds
+      by false true = all ThirdWednesdays ds
+      by false false = gives ds
 
   seeded : (b : Bool) (seed : ℕ) → Free (seedAtEnd b mask closed seed)
   unfolding seedAtEnd seedAsked

@@ -8,12 +8,12 @@ use mathlib.Core.List.{List}
 use native.Mathlib.Omega.{arith}
 use borrow.Author.Tests.{le-leb}
 use Rattle.refusal.specs.Answer.{CLOSED}
-use Rattle.date.specs.Date.{withinSpan, step}
+use Rattle.date.specs.Date.{SPAN-FIRST, SPAN-LAST, withinSpan, step}
 use Rattle.date.specs.Moves.{span-in}
 use Rattle.calendar.specs.declared.Convention.{Convention}
 use Rattle.calendar.specs.declared.Convention.the-variants.{Unadjusted, Following, ModifiedFollowing, Preceding, ModifiedPreceding}
 use Rattle.calendar.specs.Open.{isOpen}
-use Rattle.calendar.specs.Adjust.{conventionOf, inSpan, takenOr, firstOpen, found, sameMonth, unlessLeft, modified, byConvention, adjusted}
+use Rattle.calendar.specs.Adjust.{conventionNumber, inSpan, takenOr, firstOpen, found, sameMonth, unlessLeft, modified, byConvention, adjusted}
 use Rattle.outcomes.specs.Late.{by-search, Fine, gives, refuses, steps, weaker, tested}
 
 pub record Close (n day r : ℕ) : Type 0 where
@@ -29,9 +29,9 @@ pub record Wide (day : ℕ) : Type 0 where
 abbrev pub Asks : Type 0 → Convention → Type 0
 Asks c convention = (convention ≡ Unadjusted → ⊥) → c
 
-pub adjusts : (convention : Convention) → 1 ≤ conventionOf convention → convention ≡ Unadjusted → ⊥
-unfolding conventionOf
-adjusts convention h e = omega (arith, ap conventionOf e)
+pub adjusts : (convention : Convention) → 1 ≤ conventionNumber convention → convention ≡ Unadjusted → ⊥
+unfolding conventionNumber
+adjusts convention h e = omega (arith, ap conventionNumber e)
 
 next-close : (back : Bool) (day : ℕ) → Close 1 day (step back day 1)
 unfolding step
@@ -40,10 +40,10 @@ next-close false day = record { low = omega arith; high = omega arith }
 
 pub wide-span : (day : ℕ) → Wide day → inSpan day ≡ true
 unfolding inSpan
-wide-span day w = rw (le-leb 657072 day (omega (arith, w .low)), le-leb day 876216 (omega (arith, w .high))) refl
+wide-span day w = rw (le-leb SPAN-FIRST day (omega (arith, w .low)), le-leb day SPAN-LAST (omega (arith, w .high))) refl
 
 module _ {c : Type 0} where
-  pub within-fine : {P : ℕ → Type 0} (r : ℕ) → 657072 ≤ r → r ≤ 876216 → P r → Fine c P (withinSpan r)
+  pub within-fine : {P : ℕ → Type 0} (r : ℕ) → SPAN-FIRST ≤ r → r ≤ SPAN-LAST → P r → Fine c P (withinSpan r)
   within-fine r a b h = rw (← span-in r a b) (gives r h)
 
   module _ (mask : ℕ) (closed : List ℕ) where
@@ -72,7 +72,7 @@ module _ {c : Type 0} where
 
     -- ---- by convention
     by-fine : (convention : Convention) (day : ℕ) → Asks c convention → Wide day → Fine c (Close 31 day) (byConvention mask closed convention day)
-    unfolding byConvention conventionOf
+    unfolding byConvention conventionNumber
     by-fine Unadjusted day a w = gives day (record { low = omega arith; high = omega arith })
     by-fine Following day a w = found-fine (a (adjusts Following (omega arith))) false day w
     by-fine ModifiedFollowing day a w = modified-fine (a (adjusts ModifiedFollowing (omega arith))) false day w

@@ -10,7 +10,7 @@ use borrow.Author.Tests.{leb-true}
 use Rattle.refusal.specs.Answer.{given, BOOK}
 use Rattle.refusal.specs.Laws.{need-given, one-given}
 use Rattle.date.specs.Civil.{fieldsOf, monthLength, dayNumber}
-use Rattle.date.specs.Date.{inBook, withinSpan, monthIndex, inMonth}
+use Rattle.date.specs.Date.{SPAN-FIRST, SPAN-LAST, inBook, withinSpan, monthIndex, inMonth}
 use Rattle.date.specs.Round.{fields-valid, day-of-fields}
 use Rattle.date.specs.Made.{make-ok, made, made-within}
 use Rattle.date.specs.Moves.{book-from}
@@ -19,20 +19,20 @@ use Rattle.date.specs.Months.{length-ge}
 use Rattle.imm.specs.Order.{book-years}
 
 pub record InSpan (n : ℕ) : Type 0 where
-  pub low : 657072 ≤ n
-  pub high : n ≤ 876216
+  pub low : SPAN-FIRST ≤ n
+  pub high : n ≤ SPAN-LAST
 
 pub le-or-lt : (a b : ℕ) → (a ≤ b) ⊎ (b < a)
 le-or-lt zero b = inl zero-le
 le-or-lt (suc a) zero = inr (omega arith)
 le-or-lt (suc a) (suc b) = ⊎-elim (λ (h : a ≤ b). inl (omega arith)) (λ (h : b < a). inr (omega arith)) (le-or-lt a b)
 
-pub span-is : (n d : ℕ) → withinSpan n ≡ given d → (657072 ≤ n) × (n ≤ 876216) × (d ≡ n)
+pub span-is : (n d : ℕ) → withinSpan n ≡ given d → (SPAN-FIRST ≤ n) × (n ≤ SPAN-LAST) × (d ≡ n)
 unfolding withinSpan
 span-is n d h =
-    let a = need-given BOOK (leb 657072 n) _ d h in
-    let b = need-given BOOK (leb n 876216) _ d (a .1) in
-    (leb-true 657072 n (a .0), leb-true n 876216 (b .0), one-given (given n) d n (b .1) refl)
+    let a = need-given BOOK (leb SPAN-FIRST n) _ d h in
+    let b = need-given BOOK (leb n SPAN-LAST) _ d (a .1) in
+    (leb-true SPAN-FIRST n (a .0), leb-true n SPAN-LAST (b .0), one-given (given n) d n (b .1) refl)
 
 -- a day taken is one of the span
 pub day-span : (n d : ℕ) → withinSpan n ≡ given d → InSpan d

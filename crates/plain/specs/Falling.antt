@@ -11,6 +11,7 @@ use lib.Dec.{ltb}
 use borrow.Author.Tests.{lt-ltb, le-ltb}
 use lib.ListN.{length, take, replicate}
 use Rattle.refusal.specs.Answer.{Answer, given, refused, then, ROOM}
+use Rattle.date.specs.Date.{SPAN-FIRST, SPAN-LAST}
 use Rattle.calendar.specs.declared.Convention.the-variants.{Unadjusted}
 use Rattle.steps.specs.declared.Pace.{Pace}
 use Rattle.steps.specs.declared.Seed.{Seed}
@@ -82,7 +83,7 @@ pub record Falls (cand : ℕ → Answer ℕ) (e t j : ℕ) : Type 0 where
 
 module _
     (mask : ℕ) (closed : List ℕ) (pace : Pace) (seed : Seed) (room e t j : ℕ) (f : Falls (candidate true pace seed) e t j)
-    (order : e < t) (few : j < lastTry) (from : 657072 ≤ e) (to : t ≤ 876216)
+    (order : e < t) (few : j < lastTry) (from : SPAN-FIRST ≤ e) (to : t ≤ SPAN-LAST)
   where
     abbrev cand : ℕ → Answer ℕ
     cand k = candidate true pace seed k

@@ -9,7 +9,7 @@ use Rattle.refusal.specs.Answer.{Answer, given}
 use Rattle.period.specs.declared.Unit.{Unit as TimeUnit}
 use Rattle.period.specs.declared.Unit.the-variants.{Days, Weeks, Months, Years}
 use Rattle.date.specs.Civil.{fieldsOf}
-use Rattle.date.specs.Date.{inBook, step, monthIndex, shiftDays, shiftMonths, shifted}
+use Rattle.date.specs.Date.{SPAN-FIRST, SPAN-LAST, inBook, step, monthIndex, shiftDays, shiftMonths, shifted}
 use Rattle.date.specs.Round.{fields-valid}
 use Rattle.date.specs.Moves.{span-in, book-from, book-le}
 use Rattle.date.specs.Order.{more-months-earlier}
@@ -27,11 +27,11 @@ span-of t x Years d h = month-span _ _ d h
 
 module _ (e t n : ℕ) (from : inBook e ≡ true) (order : e ≤ t) (to : inBook t ≡ true) where
   -- ---- days
-  days-at : (x d : ℕ) → shifted t true x Days ≡ given d → (657072 ≤ t - x) × (t - x ≤ 876216) × (d ≡ t - x)
+  days-at : (x d : ℕ) → shifted t true x Days ≡ given d → (SPAN-FIRST ≤ t - x) × (t - x ≤ SPAN-LAST) × (d ≡ t - x)
   unfolding shifted shiftDays step
   days-at x d h = span-is (t - x) d h
 
-  pub days-are : (x : ℕ) → 657072 ≤ t - x → shifted t true x Days ≡ given (t - x)
+  pub days-are : (x : ℕ) → SPAN-FIRST ≤ t - x → shifted t true x Days ≡ given (t - x)
   unfolding shifted shiftDays step
   days-are x h = sym (span-in (t - x) h (omega (arith, book-le t to)))
 

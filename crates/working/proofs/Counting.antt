@@ -69,8 +69,8 @@ module _ (back : Bool) (pace : Pace) (seed : Seed) (k : ℕ) (r : Answer ℕ) wh
 -- further off than a u32 counts there is no day of the span
 days-far : (back : Bool) (day n : ℕ) → day < 4294967296 → 4294967295 < n → refused BOOK ≡ withinSpan (step back day n)
 unfolding step withinSpan
-days-far true day n h f = let e : day - n ≡ 0 = omega arith in rw e (fails BOOK _ _ (lt-leb 657072 0 (omega arith)))
-days-far false day n h f = after BOOK (leb 657072 (day + n)) _ (fails BOOK _ _ (lt-leb (day + n) 876216 (omega arith)))
+days-far true day n h f = let e : day - n ≡ 0 = omega arith in rw e (fails BOOK _ _ (lt-leb SPAN-FIRST 0 (omega arith)))
+days-far false day n h f = after BOOK (leb SPAN-FIRST (day + n)) _ (fails BOOK _ _ (lt-leb (day + n) SPAN-LAST (omega arith)))
 
 before-span : (d : ℕ) → refused BOOK ≡ inMonth 0 d
 unfolding inMonth

@@ -92,12 +92,12 @@ pub generates-as : {room : ℕ} {o o′ : Answer Made} {r : Generated} {work mar
 generates-as e p = record { says = p .says ∙ e; lies = p .lies }
 
 -- ---- the loop that was run is the one that the definition says
-pub loop-is : (q : Request) (closed : List ℕ) (room : ℕ) (settled settled′ back : Bool) (pace : Pace) (seed : Seed) (day exit day′ exit′ : ℕ) (l : Lists) → settled ≡ settled′ → pace ≡ paceOf (q .tenor) → seed ≡ seedOf (q .monthend) day → day ≡ day′ → exit ≡ exit′ → walk (turnKept settled (q .mask) closed (q .convention) back pace seed exit) room 876216 1 l ≡ walk (turnKept settled′ (q .mask) closed (q .convention) back (paceOf (q .tenor)) (seedOf (q .monthend) day′) exit′) room lastTry 1 l
+pub loop-is : (q : Request) (closed : List ℕ) (room : ℕ) (settled settled′ back : Bool) (pace : Pace) (seed : Seed) (day exit day′ exit′ : ℕ) (l : Lists) → settled ≡ settled′ → pace ≡ paceOf (q .tenor) → seed ≡ seedOf (q .monthend) day → day ≡ day′ → exit ≡ exit′ → walk (turnKept settled (q .mask) closed (q .convention) back pace seed exit) room lastTry 1 l ≡ walk (turnKept settled′ (q .mask) closed (q .convention) back (paceOf (q .tenor)) (seedOf (q .monthend) day′) exit′) room lastTry 1 l
 unfolding lastTry
 loop-is q closed room settled settled′ back pace seed day exit day′ exit′ l s a b c d = rw (s, a, b, c, d) refl
 
 -- candidates kept as they are
-pub plain-loop-is : (q : Request) (closed : List ℕ) (room : ℕ) (back : Bool) (pace : Pace) (seed : Seed) (day exit day′ exit′ : ℕ) (l : Lists) → pace ≡ paceOf (q .tenor) → seed ≡ seedOf (q .monthend) day → day ≡ day′ → exit ≡ exit′ → walk (turnKept false (q .mask) closed (q .convention) back pace seed exit) room 876216 1 l ≡ candidates q closed room back day′ exit′ l
+pub plain-loop-is : (q : Request) (closed : List ℕ) (room : ℕ) (back : Bool) (pace : Pace) (seed : Seed) (day exit day′ exit′ : ℕ) (l : Lists) → pace ≡ paceOf (q .tenor) → seed ≡ seedOf (q .monthend) day → day ≡ day′ → exit ≡ exit′ → walk (turnKept false (q .mask) closed (q .convention) back pace seed exit) room lastTry 1 l ≡ candidates q closed room back day′ exit′ l
 unfolding candidates
 plain-loop-is q closed room back pace seed day exit day′ exit′ l a b c d =
     loop-is q closed room false false back pace seed day exit day′ exit′ l refl a b c d

@@ -3,7 +3,8 @@
 use mathlib.Core.Path.{refl}
 use mathlib.Core.List.{[], _∷_, _++_}
 use Rattle.steps.specs.Rules.{ruleNumber}
-use Rattle.request.specs.Encode.{conventionNumber, bit, spelt}
+use Rattle.calendar.specs.Adjust.{conventionNumber}
+use Rattle.request.specs.Encode.{bit, spelt}
 use Rattle.request.proofs.PutWays.{byte-as, laid-then}
 use borrow.Author.Needs.{needs}
 use Rattle.request.proofs.writing.put_choices.Statement.{statement}

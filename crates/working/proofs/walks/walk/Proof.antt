@@ -1,9 +1,10 @@
 use mathlib.Core.Path.{_≡_, refl, _∙_}
-use Prim.Native.Nat.{_-_, _≤_, _<_}
+use Prim.Native.Nat.{suc, _-_, _≤_, _<_}
 use native.Mathlib.Omega.{arith}
 use lib.ListN.{length}
+use Rattle.date.specs.Date.{SPAN-LAST}
 use Rattle.steps.specs.Fewer.{turnKept}
-use Rattle.steps.specs.Generate.{newest, walk}
+use Rattle.steps.specs.Generate.{newest, lastTry, walk}
 use Rattle.working.specs.Part.{Begun, held}
 use borrow.Author.Needs.{needs}
 use Rattle.working.proofs.Walking.{Going, going-start, walk-stop, walk-past, walk-skip, walk-full, walk-newest, walk-keep, walk-out, walk-alike}
@@ -19,11 +20,11 @@ use Rattle.working.proofs.lists.put.Reads as put-reads
 
 abbrev Inv-loop : tie.InvT-loop
 Inv-loop settled back pace seed exit mask closed start room work₀ marks₀ way n₀ k₀ front₀ near₀ day₀ work marks n k front near day =
-    (k ≤ 876217) × (length work ≡ length work₀) × (length marks ≡ length marks₀) × (Begun closed room start work₀ marks₀ → Going settled mask closed way back pace seed exit room (walk (turnKept settled mask closed way back pace seed exit) room 876216 1 (held back start work₀ marks₀)) work marks n k front near) × (Begun closed room start work₀ marks₀ → length work ≡ 4096 → n < 4097 → day ≡ newest (held back n work work))
+    (k ≤ suc SPAN-LAST) × (length work ≡ length work₀) × (length marks ≡ length marks₀) × (Begun closed room start work₀ marks₀ → Going settled mask closed way back pace seed exit room (walk (turnKept settled mask closed way back pace seed exit) room lastTry 1 (held back start work₀ marks₀)) work marks n k front near) × (Begun closed room start work₀ marks₀ → length work ≡ 4096 → n < 4097 → day ≡ newest (held back n work work))
 
 abbrev μ-loop : tie.MeasureT-loop
 μ-loop settled back pace seed exit mask closed start room work₀ marks₀ way n₀ k₀ front₀ near₀ day₀ work marks n k front near day =
-    876217 - k
+    suc SPAN-LAST - k
 
 loop-holds : tie.Need-loop-holds Inv-loop μ-loop
 loop-holds c = (omega arith, refl, refl, λ b. going-start _ _ _ _ _ _ _ _ _ _ _ _ b, λ b. c .newest .ensures)
