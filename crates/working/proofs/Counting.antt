@@ -14,7 +14,7 @@ use Rattle.refusal.specs.Answer.{Answer, refused, BOOK}
 use Rattle.refusal.specs.Laws.{fails, after}
 use Rattle.period.specs.declared.Unit.the-variants.{Days, Weeks, Months, Years}
 use Rattle.period.specs.declared.Period.{Period}
-use Rattle.date.specs.Date.{step, shifted, shiftDays, withinSpan, inMonth}
+use Rattle.date.specs.Date.{SPAN-FIRST, SPAN-LAST, step, shifted, shiftDays, withinSpan, inMonth}
 use Rattle.date.specs.Made.{make-early}
 use Rattle.date.specs.Moves.{month-late}
 use Rattle.steps.specs.declared.Pace.{Pace}
