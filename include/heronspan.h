@@ -24,26 +24,27 @@
 extern "C" {
 #endif
 
-/* ---- refusals */
+/* ---- refusals; made by tools/refusals.py: numbers */
 enum {
-    HERONSPAN_UNEVEN = 1,            /* the lists of dates and flags differ in length */
-    HERONSPAN_BOOK = 2,              /* a date outside the book, a result outside 1800 to 2399, or no such day */
-    HERONSPAN_CALENDAR = 3,          /* all seven days closed, or the closed dates break their rule */
-    HERONSPAN_NEGATIVE = 4,          /* a tenor below 0 (builds) */
-    HERONSPAN_TENOR = 5,             /* a tenor over 366 days, 520 weeks, 1200 months or 100 years */
-    HERONSPAN_FIRST_DATE = 6,        /* first date not after effective, or after termination */
-    HERONSPAN_FIRST_NOT_IMM = 7,     /* first date no IMM date */
-    HERONSPAN_FIRST_WRONG_RULE = 8,  /* first date given under a rule that takes none */
-    HERONSPAN_LAST_DATE = 9,         /* next-to-last date not after effective, or not before termination */
-    HERONSPAN_LAST_NOT_IMM = 10,     /* next-to-last date no IMM date */
-    HERONSPAN_LAST_WRONG_RULE = 11,  /* next-to-last date given under a rule that takes none */
-    HERONSPAN_MONTHEND = 12,         /* end of month on, and the rule is neither Zero, Backward nor Forward */
-    HERONSPAN_CLOSED = 13,           /* none of the 31 days of a search is open */
-    HERONSPAN_ROOM = 14,             /* a lent list is too short */
-    HERONSPAN_COLLAPSED = 15,        /* the end merge leaves two dates, the second not after the first */
-    HERONSPAN_CODE = 16,             /* no IMM code, or no IMM date */
-    HERONSPAN_REQUEST = 17           /* a number outside its list */
+    HERONSPAN_UNEVEN = 1,           /* the lists of dates and flags differ in length */
+    HERONSPAN_BOOK = 2,             /* a date outside the book, a result outside 1800 to 2399, or no such day */
+    HERONSPAN_CALENDAR = 3,         /* all seven days closed, or the closed dates break their rule */
+    HERONSPAN_NEGATIVE = 4,         /* a tenor below 0 (builds) */
+    HERONSPAN_TENOR = 5,            /* a tenor over 366 days, 520 weeks, 1200 months or 100 years */
+    HERONSPAN_FIRST_DATE = 6,       /* first date not after effective, or after termination */
+    HERONSPAN_FIRST_NOT_IMM = 7,    /* first date no IMM date */
+    HERONSPAN_FIRST_WRONG_RULE = 8, /* first date given under a rule that takes none */
+    HERONSPAN_LAST_DATE = 9,        /* next-to-last date not after effective, or not before termination */
+    HERONSPAN_LAST_NOT_IMM = 10,    /* next-to-last date no IMM date */
+    HERONSPAN_LAST_WRONG_RULE = 11, /* next-to-last date given under a rule that takes none */
+    HERONSPAN_MONTHEND = 12,        /* end of month on, and the rule is neither Zero, Backward nor Forward */
+    HERONSPAN_CLOSED = 13,          /* none of the 31 days of a search is open */
+    HERONSPAN_ROOM = 14,            /* a lent list is too short */
+    HERONSPAN_COLLAPSED = 15,       /* the end merge leaves two dates, the second not after the first */
+    HERONSPAN_CODE = 16,            /* no IMM code, or no IMM date */
+    HERONSPAN_REQUEST = 17          /* a number outside its list */
 };
+/* ---- made so far */
 
 /* ---- units of a tenor */
 enum {
@@ -198,8 +199,8 @@ enum {
  * places keep what they held. `terminal` is the convention of the last date. An anchor (`first`, `penultimate`) of 0 is no
  * anchor.
  *
- * `answer` has at least HERONSPAN_RECORD places, else HERONSPAN_ROOM is answered and nothing is written. The record of the
- * build is written to its start; of a refused one it is the number, then zeros. */
+ * `answer` has at least HERONSPAN_RECORD places, else HERONSPAN_ROOM is answered, before every other refusal, and nothing is
+ * written. The record of the build is written to its start; of a refused one it is the number, then zeros. */
 int64_t heronspan_build(uint32_t effective, uint32_t termination, int32_t tenor, uint8_t unit, uint8_t rule,
                         uint8_t convention, uint8_t terminal, uint8_t monthend, uint32_t first, uint32_t penultimate,
                         uint8_t mask, const uint32_t *closed, size_t closed_len, uint32_t *dates, size_t dates_len,
@@ -225,27 +226,46 @@ int64_t heronspan_refusal_text(int64_t answer, uint8_t *text, size_t text_len);
 
 /* The same name as a string; it is not proved. */
 static inline const char *heronspan_refusal_name(int64_t answer) {
-    static const char *const names[] = {
-        "",
-        "UNEVEN",
-        "BOOK",
-        "CALENDAR",
-        "NEGATIVE",
-        "TENOR",
-        "FIRST_DATE",
-        "FIRST_NOT_IMM",
-        "FIRST_WRONG_RULE",
-        "LAST_DATE",
-        "LAST_NOT_IMM",
-        "LAST_WRONG_RULE",
-        "MONTHEND",
-        "CLOSED",
-        "ROOM",
-        "COLLAPSED",
-        "CODE",
-        "REQUEST",
-    };
-    return answer < 0 && answer >= -HERONSPAN_REQUEST ? names[-answer] : "";
+    switch (answer) {
+    /* made by tools/refusals.py: names */
+    case -HERONSPAN_UNEVEN:
+        return "UNEVEN";
+    case -HERONSPAN_BOOK:
+        return "BOOK";
+    case -HERONSPAN_CALENDAR:
+        return "CALENDAR";
+    case -HERONSPAN_NEGATIVE:
+        return "NEGATIVE";
+    case -HERONSPAN_TENOR:
+        return "TENOR";
+    case -HERONSPAN_FIRST_DATE:
+        return "FIRST_DATE";
+    case -HERONSPAN_FIRST_NOT_IMM:
+        return "FIRST_NOT_IMM";
+    case -HERONSPAN_FIRST_WRONG_RULE:
+        return "FIRST_WRONG_RULE";
+    case -HERONSPAN_LAST_DATE:
+        return "LAST_DATE";
+    case -HERONSPAN_LAST_NOT_IMM:
+        return "LAST_NOT_IMM";
+    case -HERONSPAN_LAST_WRONG_RULE:
+        return "LAST_WRONG_RULE";
+    case -HERONSPAN_MONTHEND:
+        return "MONTHEND";
+    case -HERONSPAN_CLOSED:
+        return "CLOSED";
+    case -HERONSPAN_ROOM:
+        return "ROOM";
+    case -HERONSPAN_COLLAPSED:
+        return "COLLAPSED";
+    case -HERONSPAN_CODE:
+        return "CODE";
+    case -HERONSPAN_REQUEST:
+        return "REQUEST";
+    /* made so far */
+    default:
+        return "";
+    }
 }
 
 #endif

@@ -5,8 +5,9 @@
     tools/statements.py --check    says nothing, and ends with status 1 where the list in docs is another one
 
 Ends with status 1 and a line for each public function that has a `requires`, no `ensures`, or fewer than two wrong programs
-that its statement rules out, and for each wrong program of no public function. A function is public if it is `pub fn` in the
-root of a library or in modules that are `pub mod` all the way; programs have none.
+that its statement rules out, and for each wrong program of no public function; and, unless docs/EXCEPTIONS.md names it, for each
+that promises under a premise, and for each list that is lent to be written whose exit its statement does not speak of. A function
+is public if it is `pub fn` in the root of a library or in modules that are `pub mod` all the way; programs have none.
 """
 import glob
 import os
@@ -15,6 +16,7 @@ import sys
 
 ROOT = os.path.dirname(os.path.dirname(os.path.abspath(__file__)))
 LISTED = os.path.join(ROOT, "docs", "STATEMENTS.md")
+EXCEPTIONS = os.path.join(ROOT, "docs", "EXCEPTIONS.md")
 HEAD = """# Statements
 
 Every public function, its statement, and the file that it stands in; made by tools/statements.py from the sources. `r` is
@@ -61,7 +63,8 @@ def functions():
                 if found["in"]:
                     owner = f"{place}::{[m[1] for m in IMPL.finditer(text, 0, found.start())][-1]}"
                 clauses = re.findall(r"^ *(requires|ensures) \{ (.*) \}$", found["rest"], re.M)
-                yield crate, f"{owner}::{found['name']}", path, clauses
+                lent = re.findall(r"(\w+): &(?:'\w+ )?mut ", found["rest"])
+                yield crate, f"{owner}::{found['name']}", path, clauses, lent
 
 
 def ruled_out():
@@ -69,7 +72,7 @@ def ruled_out():
     named = {}
     for path in sorted(path for part in ("must-fail", "wrong") for path in glob.glob(os.path.join(ROOT, "crates", "*", part, "*.edit"))):
         with open(path) as f:
-            for name in re.findall(r"^# of (.*)$", f.read(), re.M):
+            for name in sorted(set(re.findall(r"^# of (.*)$", f.read(), re.M))):
                 named.setdefault(name, []).append(os.path.basename(path)[: -len(".edit")])
     return named
 
@@ -81,12 +84,29 @@ def shown(clause):
     return re.sub(r"\(now \((\w+) \.(entry|exit)\)\)|now \((\w+) \.(entry|exit)\)", lambda m: f"({m[1] or m[3]} .{m[2] or m[4]})", clause)
 
 
+def excepted():
+    """What docs/EXCEPTIONS.md names: functions that promise under a premise, and lists, each as `function: list`."""
+    with open(EXCEPTIONS) as f:
+        text = f.read()
+    premised = set(re.findall(r"^\| `([\w:]+)` \|", text, re.M))
+    unsaid = set()
+    for name, lists in re.findall(r"^- `([\w:]+)`: ((?:`\w+`(?:, )?)+)", text, re.M):
+        unsaid |= {f"{name}: {part}" for part in re.findall(r"`(\w+)`", lists)}
+    return premised, unsaid
+
+
 def main():
     faults, out, former = [], [HEAD], None
     count, wrong = 0, ruled_out()
-    for crate, name, path, clauses in functions():
+    premised, unsaid = excepted()
+    under, silent = set(), set()
+    for crate, name, path, clauses, lent in functions():
         count += 1
         kinds = [kind for kind, _ in clauses]
+        promise = " ".join(text for kind, text in clauses if kind == "ensures")
+        if " → " in promise:
+            under.add(name)
+        silent |= {f"{name}: {part}" for part in lent if f"({part} .exit)" not in promise}
         if "requires" in kinds:
             faults.append(f"{path}: {name} has a `requires`")
         if "ensures" not in kinds:
@@ -99,7 +119,11 @@ def main():
         if len(edits) < 2:
             faults.append(f"{path}: {name} has fewer than two wrong programs")
         out.append(f"- **{name}** ({path}): {said}; ruled out: {', '.join(edits)}\n")
-    out.append(f"\n{count} public functions.\n")
+    out.append(f"\n{count} public functions, {len(under)} of which promise under a premise (docs/EXCEPTIONS.md).\n")
+    faults += [f"docs/EXCEPTIONS.md does not name {name}, which promises under a premise" for name in sorted(under - premised)]
+    faults += [f"docs/EXCEPTIONS.md names {name}, which promises without a premise" for name in sorted(premised - under)]
+    faults += [f"{part} is lent, and its exit is not spoken of" for part in sorted(silent - unsaid)]
+    faults += [f"docs/EXCEPTIONS.md names {part}, whose exit is spoken of" for part in sorted(unsaid - silent)]
     faults += [f"{name} has wrong programs ({', '.join(edits)}) and is no public function" for name, edits in wrong.items()]
     text = "".join(out)
     if "--check" in sys.argv:

@@ -26,23 +26,25 @@ __all__ = [
 
 
 class Refusal(IntEnum):
-    UNEVEN = 1
-    BOOK = 2
-    CALENDAR = 3
-    NEGATIVE = 4
-    TENOR = 5
-    FIRST_DATE = 6
-    FIRST_NOT_IMM = 7
-    FIRST_WRONG_RULE = 8
-    LAST_DATE = 9
-    LAST_NOT_IMM = 10
-    LAST_WRONG_RULE = 11
-    MONTHEND = 12
-    CLOSED = 13
-    ROOM = 14
-    COLLAPSED = 15
-    CODE = 16
-    REQUEST = 17
+    # made by tools/refusals.py: numbers
+    UNEVEN = 1  # the lists of dates and flags differ in length
+    BOOK = 2  # a date outside the book, a result outside 1800 to 2399, or no such day
+    CALENDAR = 3  # all seven days closed, or the closed dates break their rule
+    NEGATIVE = 4  # a tenor below 0 (builds)
+    TENOR = 5  # a tenor over 366 days, 520 weeks, 1200 months or 100 years
+    FIRST_DATE = 6  # first date not after effective, or after termination
+    FIRST_NOT_IMM = 7  # first date no IMM date
+    FIRST_WRONG_RULE = 8  # first date given under a rule that takes none
+    LAST_DATE = 9  # next-to-last date not after effective, or not before termination
+    LAST_NOT_IMM = 10  # next-to-last date no IMM date
+    LAST_WRONG_RULE = 11  # next-to-last date given under a rule that takes none
+    MONTHEND = 12  # end of month on, and the rule is neither Zero, Backward nor Forward
+    CLOSED = 13  # none of the 31 days of a search is open
+    ROOM = 14  # a lent list is too short
+    COLLAPSED = 15  # the end merge leaves two dates, the second not after the first
+    CODE = 16  # no IMM code, or no IMM date
+    REQUEST = 17  # a number outside its list
+    # made so far
 
 
 class Unit(IntEnum):

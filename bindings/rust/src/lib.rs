@@ -12,25 +12,45 @@ use std::fmt;
 #[derive(Clone, Copy, Debug, PartialEq, Eq, Hash)]
 #[repr(u8)]
 pub enum Refusal {
+    // made by tools/refusals.py: numbers
+    /// The lists of dates and flags differ in length.
     Uneven = 1,
+    /// A date outside the book, a result outside 1800 to 2399, or no such day.
     Book = 2,
+    /// All seven days closed, or the closed dates break their rule.
     Calendar = 3,
+    /// A tenor below 0 (builds).
     Negative = 4,
+    /// A tenor over 366 days, 520 weeks, 1200 months or 100 years.
     Tenor = 5,
+    /// First date not after effective, or after termination.
     FirstDate = 6,
+    /// First date no IMM date.
     FirstNotImm = 7,
+    /// First date given under a rule that takes none.
     FirstWrongRule = 8,
+    /// Next-to-last date not after effective, or not before termination.
     LastDate = 9,
+    /// Next-to-last date no IMM date.
     LastNotImm = 10,
+    /// Next-to-last date given under a rule that takes none.
     LastWrongRule = 11,
+    /// End of month on, and the rule is neither Zero, Backward nor Forward.
     Monthend = 12,
+    /// None of the 31 days of a search is open.
     Closed = 13,
+    /// A lent list is too short.
     Room = 14,
+    /// The end merge leaves two dates, the second not after the first.
     Collapsed = 15,
+    /// No IMM code, or no IMM date.
     Code = 16,
+    /// A number outside its list.
     Request = 17,
+    // made so far
 }
 
+// made by tools/refusals.py: names
 const REFUSALS: [(Refusal, &str); 17] = [
     (Refusal::Uneven, "UNEVEN"),
     (Refusal::Book, "BOOK"),
@@ -50,6 +70,7 @@ const REFUSALS: [(Refusal, &str); 17] = [
     (Refusal::Code, "CODE"),
     (Refusal::Request, "REQUEST"),
 ];
+// made so far
 
 impl Refusal {
     pub fn number(self) -> u8 {
@@ -57,7 +78,7 @@ impl Refusal {
     }
 
     pub fn name(self) -> &'static str {
-        REFUSALS[self as usize - 1].1
+        REFUSALS.iter().find(|row| row.0 == self).map_or("", |row| row.1)
     }
 }
 
@@ -81,7 +102,8 @@ pub type Answer<T> = Result<T, Refusal>;
 /// What an answer in one number says.
 fn told(answer: i64) -> Answer<i64> {
     if answer < 0 {
-        return Err(REFUSALS[(-answer - 1) as usize].0);
+        let row = REFUSALS.iter().find(|row| i64::from(row.0.number()) == -answer);
+        return Err(row.expect("an answer below zero is minus a number of the list").0);
     }
     Ok(answer)
 }

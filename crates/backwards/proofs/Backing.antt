@@ -27,21 +27,12 @@ use Rattle.working.specs.declared.Filled.{Filled}
 use Rattle.working.specs.declared.Filled.the-variants as filled-is
 use Rattle.working.specs.declared.adds.Added.{Added}
 use Rattle.working.specs.declared.adds.Added.the-variants as added-is
-use Rattle.backwards.specs.declared.Generated.the-variants as generated-is
+use Rattle.working.specs.declared.Generated.the-variants as generated-is
 use Rattle.working.specs.Part.{Part, held, lastPut, filled, Placed, Filling}
 use Rattle.working.specs.Adding.{Adding}
-use Rattle.backwards.specs.Making.{generated, Lies, Generates}
+use Rattle.working.specs.Making.{generated, Lies, Generates}
 use Rattle.working.specs.Held.{put-length}
-use Rattle.backwards.specs.Chains.{added-sits, added-given}
-
--- ---- anchors
-pub anchor-none : (anchor other : ℕ) → anchor ≡ 0 → other ≡ anchorOr anchor other
-unfolding anchorOr isGiven
-anchor-none anchor other e = simp (eq-eqb anchor 0 e)
-
-pub anchor-some : (anchor other : ℕ) → (anchor ≡ 0 → ⊥) → anchor ≡ anchorOr anchor other
-unfolding anchorOr isGiven
-anchor-some anchor other e = simp (ne-eqb anchor 0 e)
+use Rattle.working.specs.After.{added-sits, added-given}
 
 -- ---- the next-to-last date
 module _ (pace : Pace) (seed : Seed) {room n : ℕ} {work marks : List ℕ} (p : Part room n work marks) (some : 0 < n) (anchor : ℕ) where

@@ -7,6 +7,7 @@ ghost use Rattle.working.specs.Part.{Part, held, Filling};
 use date::Dated;
 use steps::Pace;
 use steps::Seed;
+use steps::flags;
 use working::Filled;
 use working::candidates;
 use working::lists;
@@ -37,7 +38,7 @@ fn put_penultimate(
             n,
             room,
             anchor,
-            lists::same_flag(d.day, anchor),
+            flags::same_flag(d.day, anchor),
             work,
             marks,
         ),

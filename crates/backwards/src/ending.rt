@@ -6,7 +6,7 @@ ghost use Rattle.steps.specs.Generate.{newest, ended, backwardEnd};
 ghost use Rattle.working.specs.Part.{Begun, held};
 ghost use Rattle.working.specs.Turning.{Front};
 ghost use Rattle.working.specs.Adding.{Adding};
-ghost use Rattle.backwards.specs.Making.{Generates};
+ghost use Rattle.working.specs.Making.{Generates};
 use crate::Generated;
 use steps::Request;
 use working::adds;

@@ -2,15 +2,15 @@
 ghost use mathlib.Core.Path.{_≡_};
 ghost use mathlib.Core.Bool.{true};
 ghost use Rattle.steps.specs.Rules.{paceOf};
-ghost use Rattle.steps.specs.Generate.{anchorOr};
 ghost use Rattle.steps.specs.Fewer.{keptFrom, keptBackward};
 ghost use Rattle.working.specs.Part.{Part, Begun, held};
-ghost use Rattle.backwards.specs.Making.{Checked, Generates};
+ghost use Rattle.working.specs.Making.{Checked, Generates};
 use steps::Pace;
 use steps::Request;
 use steps::rules;
 use steps::seeds;
 use working::Filled;
+use working::Generated;
 use working::candidates;
 use working::walks;
 use working::walks::Walked;
@@ -19,25 +19,6 @@ use working::walks::Walked;
 mod beginning;
 // The first date and the effective one.
 mod ending;
-
-// What has been generated: n dates from a place on in the working list, and the flags between them from another place on.
-pub enum Generated {
-    Ready {
-        from: usize,
-        marked: usize,
-        n: usize,
-        tries: u32,
-        seed: u32,
-    },
-    Refused(u8),
-}
-
-// An anchor, or the other date where it is absent.
-pub fn anchor_or(anchor: u32, other: u32) -> u32
-    ensures { λ r. ⌜ r ≡ anchorOr anchor other ⌝ }
-{
-    if anchor == 0 { other } else { anchor }
-}
 
 // The loop, and what is left after it.
 fn backward_from(
@@ -52,8 +33,8 @@ fn backward_from(
     ensures { λ r. ⌜ (pace ≡ paceOf (q .tenor) → Begun (now (closed .entry)) room n (now (work .entry)) (now (marks .entry)) → Generates room (keptFrom q (now (closed .entry)) room (held true n (now (work .entry)) (now (marks .entry)))) r (now (work .exit)) (now (marks .exit))) ⌝ }
 {
     let convention = q.convention;
-    let day = anchor_or(q.penultimate.day, q.termination.day);
-    let exit = anchor_or(q.first.day, q.effective.day);
+    let day = seeds::anchor_or(q.penultimate.day, q.termination.day);
+    let exit = seeds::anchor_or(q.first.day, q.effective.day);
     let seed = seeds::seed_of(q.monthend, day);
     let walked = walks::walk(
         rules::settles(q),

@@ -10,13 +10,14 @@ use native.Mathlib.Omega.{arith}
 use lib.ListN.{length, getD, drop, drop-of-length-le}
 use lib.Seq.{drop-cons}
 use borrow.Author.Needs.{needs}
-use lib.Dec.{ltb}
-use borrow.Author.Tests.{le-leb, lt-leb, lt-ltb, ltb-true}
+use lib.Dec.{leb, ltb}
+use borrow.Author.Tests.{le-leb, lt-leb, leb-true, ltb-true}
+use Rattle.date.specs.Date.{SPAN-FIRST, SPAN-LAST}
 use Rattle.calendar.specs.Open.{ascending, closedOk}
 
 -- the rule of date x and of those that follow it, but for x's lower bound
 unfoldable pub onFrom : ℕ → List ℕ → Bool
-onFrom x xs = ltb x 876217 && ascending (x + 1) 876217 xs
+onFrom x xs = leb x SPAN-LAST && ascending (x + 1) SPAN-LAST xs
 
 -- what holds of the list is what `keeps` says of the dates before place i and the rule of the last of them and of those that follow
 pub record Kept (closed : List ℕ) (keeps : Bool) (i : ℕ) : Type 0 where
@@ -34,7 +35,7 @@ unfolding closedOk ascending
 kept-none [] h = refl
 kept-none (x ∷ xs) h = let bad : ⊥ = omega arith in absurd bad
 
-pub kept-start : (closed : List ℕ) → length closed ≤ 4096 → (length closed ≡ 0 → ⊥) → Kept closed (ltb 657071 (getD closed 0 0)) 1
+pub kept-start : (closed : List ℕ) → length closed ≤ 4096 → (length closed ≡ 0 → ⊥) → Kept closed (leb SPAN-FIRST (getD closed 0 0)) 1
 unfolding closedOk ascending onFrom
 kept-start [] h some = absurd (some refl)
 kept-start (x ∷ xs) h some =
@@ -64,24 +65,24 @@ module _ {closed : List ℕ} {keeps : Bool} {i : ℕ} (g : Kept closed keeps i) 
   kept-next h =
       let low = getD closed (i - 1) 0 in
       let x = getD closed i 0 in
-      let rest = ascending (x + 1) 876217 (drop (i + 1) closed) in
-      let e : (keeps && (ltb low 876217 && ascending (low + 1) 876217 (drop i closed))) ≡ (keeps && (ltb low 876217 && (ltb low x && (ltb x 876217 && rest)))) = simp (drop-cons closed i 0 h, add-one i, add-one low) in
+      let rest = ascending (x + 1) SPAN-LAST (drop (i + 1) closed) in
+      let e : (keeps && (leb low SPAN-LAST && ascending (low + 1) SPAN-LAST (drop i closed))) ≡ (keeps && (leb low SPAN-LAST && (ltb low x && (leb x SPAN-LAST && rest)))) = simp (drop-cons closed i 0 h, add-one i, add-one low) in
       record {
         few = g .few;
         begun = omega arith;
         within = omega arith;
         same =
             ap (λ (k : ℕ). (keeps && ltb low x) && onFrom (getD closed k 0) (drop (i + 1) closed)) (add-sub-cancel i 1)
-            ∙ in-time keeps (ltb low x) (ltb x 876217) (ltb low 876217) rest (λ a b. lt-ltb low 876217 (omega (arith, ltb-true low x a, ltb-true x 876217 b)))
+            ∙ in-time keeps (ltb low x) (leb x SPAN-LAST) (leb low SPAN-LAST) rest (λ a b. le-leb low SPAN-LAST (omega (arith, ltb-true low x a, leb-true x SPAN-LAST b)))
             ∙ sym e
             ∙ g .same;
       }
 
-  pub kept-end : length closed ≤ i → (keeps && ltb (getD closed (i - 1) 0) 876217) ≡ closedOk closed
+  pub kept-end : length closed ≤ i → (keeps && leb (getD closed (i - 1) 0) SPAN-LAST) ≡ closedOk closed
   unfolding ascending onFrom
   kept-end h =
       let low = getD closed (i - 1) 0 in
-      let e : (keeps && (ltb low 876217 && ascending (low + 1) 876217 (drop i closed))) ≡ (keeps && ltb low 876217) = rw (drop-of-length-le closed h) (ap (λ (b : Bool). keeps && b) (and-true (ltb low 876217))) in
+      let e : (keeps && (leb low SPAN-LAST && ascending (low + 1) SPAN-LAST (drop i closed))) ≡ (keeps && leb low SPAN-LAST) = rw (drop-of-length-le closed h) (ap (λ (b : Bool). keeps && b) (and-true (leb low SPAN-LAST))) in
       sym e ∙ g .same
 
 pub ruleset checks = (kept-long, kept-none, kept-start, kept-next, kept-end, needs)

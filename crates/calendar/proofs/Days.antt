@@ -11,7 +11,7 @@ use lib.ListN.{length, getD}
 use lib.Dec.{eqb}
 use borrow.Author.Needs.{needs}
 use Rattle.refusal.specs.Answer.{given, refused, CLOSED}
-use Rattle.date.specs.Date.{step}
+use Rattle.date.specs.Date.{SPAN-FIRST, SPAN-LAST, step}
 use Rattle.calendar.specs.Open.{weeklyClosed, member, isOpen, closedOk}
 use Rattle.calendar.specs.Places.{Below, Above, LowerBound}
 use Rattle.calendar.specs.Adjust.{firstOpen}
@@ -96,7 +96,7 @@ days-none g h ok = sym (none g h)
 
 -- ---- on
 module _ {mask : ℕ} {closed : List ℕ} {start at weekday : ℕ} where
-  pub ahead-start : 657072 ≤ start → start < 876217 → LowerBound closed start at → weekday ≡ (start + 6) % 7 → Days false mask closed start start 31 at weekday
+  pub ahead-start : SPAN-FIRST ≤ start → start ≤ SPAN-LAST → LowerBound closed start at → weekday ≡ (start + 6) % 7 → Days false mask closed start start 31 at weekday
   unfolding Passed
   ahead-start l h b w =
       record {
@@ -145,7 +145,7 @@ pub ruleset ahead-rules = (ahead-start, scan-of-days, is-weekday, days-none, ahe
 
 -- ---- back
 module _ {mask : ℕ} {closed : List ℕ} {start at weekday : ℕ} where
-  pub behind-start : 657072 ≤ start → start < 876217 → LowerBound closed (start + 1) at → weekday ≡ (start + 6) % 7 → Days true mask closed start start 31 at weekday
+  pub behind-start : SPAN-FIRST ≤ start → start ≤ SPAN-LAST → LowerBound closed (start + 1) at → weekday ≡ (start + 6) % 7 → Days true mask closed start start 31 at weekday
   unfolding Passed
   behind-start l h b w =
       record {

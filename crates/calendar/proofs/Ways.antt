@@ -17,7 +17,7 @@ use Rattle.date.specs.declared.Date.{Date}
 use Rattle.date.specs.declared.Dated.{Dated}
 use Rattle.date.specs.declared.Dated.the-variants.{Day, Refused}
 use Rattle.date.specs.Civil.{fieldsOf}
-use Rattle.date.specs.Date.{dated, step, withinSpan}
+use Rattle.date.specs.Date.{SPAN-FIRST, SPAN-LAST, dated, step, withinSpan}
 use Rattle.date.specs.Made.{given-day, refused-day}
 use Rattle.calendar.specs.declared.Convention.{Convention}
 use Rattle.calendar.specs.declared.Convention.the-variants.{Following, ModifiedFollowing, Preceding}
@@ -46,13 +46,13 @@ module _ {A B : Type 0} where
   pub then-same : (x y : Answer A) (f : A → Answer B) (r : Answer B) → r ≡ then x f → x ≡ y → r ≡ then y f
   then-same x y f r h e = h ∙ ap (λ (a : Answer A). then a f) e
 
-pub span-from : (t : Bool) (day : ℕ) → t ≡ inSpan day → t ≡ true → 657072 ≤ day
+pub span-from : (t : Bool) (day : ℕ) → t ≡ inSpan day → t ≡ true → SPAN-FIRST ≤ day
 unfolding inSpan
-span-from t day p e = leb-true 657072 day (both _ _ (sym p ∙ e) .0)
+span-from t day p e = leb-true SPAN-FIRST day (both _ _ (sym p ∙ e) .0)
 
-pub span-to : (t : Bool) (day : ℕ) → t ≡ inSpan day → t ≡ true → day < 876217
+pub span-to : (t : Bool) (day : ℕ) → t ≡ inSpan day → t ≡ true → day ≤ SPAN-LAST
 unfolding inSpan
-span-to t day p e = omega (arith, leb-true day 876216 (both (leb 657072 day) _ (sym p ∙ e) .1))
+span-to t day p e = leb-true day SPAN-LAST (both (leb SPAN-FIRST day) _ (sym p ∙ e) .1)
 
 pub within-given : (n m : ℕ) → withinSpan n ≡ given m → m ≡ n
 within-given n m h = sym (one-given _ n m refl (need-given BOOK (inSpan n) (given n) m (sym (span-need n) ∙ h) .1))

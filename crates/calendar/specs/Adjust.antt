@@ -2,26 +2,29 @@
 -- Assumes nothing.
 use Prim.Native.Nat.{ℕ, zero, suc, _+_}
 use mathlib.Core.Bool.{Bool, true, false, not, _&&_}
-use mathlib.Core.List.{List}
+use mathlib.Core.List.{List, [], _∷_}
 use lib.Dec.{eqb, leb}
 use Rattle.refusal.specs.Answer.{Answer, given, refused, need, then, BOOK, CLOSED}
 use Rattle.period.specs.declared.Unit.{Unit}
 use Rattle.period.specs.declared.Unit.the-variants.{Days, Weeks, Months, Years}
-use Rattle.date.specs.Date.{step, withinSpan, monthIndex, lastOfMonth, shifted}
+use Rattle.date.specs.Date.{SPAN-FIRST, SPAN-LAST, step, withinSpan, monthIndex, lastOfMonth, shifted}
 use Rattle.calendar.specs.declared.Convention.{Convention}
 use Rattle.calendar.specs.declared.Convention.the-variants.{Unadjusted, Following, ModifiedFollowing, Preceding, ModifiedPreceding}
 use Rattle.calendar.specs.Open.{isOpen}
 
--- document 01's numbers of the conventions
-unfoldable pub conventionOf : Convention → ℕ
-conventionOf Unadjusted = 0
-conventionOf Following = 1
-conventionOf ModifiedFollowing = 2
-conventionOf Preceding = 3
-conventionOf ModifiedPreceding = 4
+-- the conventions in document 01's order, and their numbers, which are their places
+unfoldable pub conventions : List Convention
+conventions = Unadjusted ∷ Following ∷ ModifiedFollowing ∷ Preceding ∷ ModifiedPreceding ∷ []
+
+unfoldable pub conventionNumber : Convention → ℕ
+conventionNumber Unadjusted = 0
+conventionNumber Following = 1
+conventionNumber ModifiedFollowing = 2
+conventionNumber Preceding = 3
+conventionNumber ModifiedPreceding = 4
 
 unfoldable pub inSpan : ℕ → Bool
-inSpan day = leb 657072 day && leb day 876216
+inSpan day = leb SPAN-FIRST day && leb day SPAN-LAST
 
 -- ---- the search
 unfoldable pub takenOr : Bool → ℕ → (ℕ → Answer ℕ) → Answer ℕ

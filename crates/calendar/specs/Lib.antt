@@ -9,3 +9,4 @@ pub mod Stays
 pub mod Calendar
 pub mod Told
 pub mod Sums
+pub mod Always

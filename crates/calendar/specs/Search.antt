@@ -9,7 +9,7 @@ use native.Mathlib.Omega.{arith}
 use native.Mathlib.Nat.{not-suc-le-zero}
 use Rattle.refusal.specs.Answer.{Answer, given, refused, need, then, BOOK, CLOSED}
 use Rattle.refusal.specs.Laws.{holds, need-given, then-given, then-refused, never-both, one-given}
-use Rattle.date.specs.Date.{step, withinSpan}
+use Rattle.date.specs.Date.{SPAN-FIRST, SPAN-LAST, step, withinSpan}
 use Rattle.calendar.specs.Open.{isOpen}
 use Rattle.calendar.specs.Adjust.{inSpan, takenOr, firstOpen, found, towards, byConvention, adjusted}
 
@@ -117,7 +117,7 @@ span-by false b n = refl
 
 pub span-need : (day : ℕ) → withinSpan day ≡ need BOOK (inSpan day) (given day)
 unfolding withinSpan inSpan
-span-need day = span-by (leb 657072 day) (leb day 876216) day
+span-need day = span-by (leb SPAN-FIRST day) (leb day SPAN-LAST) day
 
 pub span-given : (day : ℕ) → inSpan day ≡ true → withinSpan day ≡ given day
 span-given day s = span-need day ∙ sym (holds BOOK (inSpan day) (given day) _ s refl)

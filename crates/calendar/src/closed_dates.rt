@@ -4,6 +4,7 @@ ghost use Prim.Native.Nat.{_+_};
 ghost use lib.ListN.{length};
 ghost use Rattle.calendar.specs.Open.{closedOk};
 ghost use Rattle.calendar.specs.Places.{Bracket, LowerBound};
+use date::span;
 
 // Whether the list keeps its rule: one pass, without a branch for each date. As the dates ascend, the last alone is held against the
 // upper bound.
@@ -16,13 +17,13 @@ pub(crate) fn keep_rule(closed: &[u32]) -> bool
     if closed.len() == 0 {
         return true;
     }
-    let mut keeps = 657071 < closed[0];
+    let mut keeps = span::FIRST <= closed[0];
     let mut i = 1;
     while i < closed.len() {
         keeps = keeps & (closed[i - 1] < closed[i]);
         i += 1;
     }
-    keeps & (closed[i - 1] < 876217)
+    keeps & (closed[i - 1] <= span::LAST)
 }
 
 // The first place whose date is at least x, or the length, known to lie from one place to another.

@@ -7,7 +7,8 @@ ghost use Prim.Native.Nat.{_+_, _-_, _/_, _%_, _^_, _≤_, _<_};
 ghost use lib.Dec.{eqb, leb};
 ghost use Rattle.refusal.specs.Answer.{then};
 ghost use Rattle.date.specs.Civil.{fieldsOf};
-ghost use Rattle.date.specs.Date.{dated, step};
+ghost use Rattle.date.specs.Date.{SPAN-FIRST, SPAN-LAST, dated, step};
+ghost use Rattle.calendar.specs.Always.{conventionOn};
 ghost use Rattle.calendar.specs.declared.Convention.the-variants.{Following, ModifiedFollowing, Preceding, ModifiedPreceding};
 ghost use Rattle.calendar.specs.Open.{weeklyClosed, isOpen, closedOk};
 ghost use Rattle.calendar.specs.Places.{LowerBound};
@@ -43,7 +44,7 @@ pub enum Placed {
 fn in_span(day: u32) -> bool
     ensures { λ r. ⌜ r ≡ inSpan day ⌝ }
 {
-    657072 <= day && day <= 876216
+    span::FIRST <= day && day <= span::LAST
 }
 
 // The weekday, from 0 for a Monday; day 1 is one.
@@ -143,7 +144,7 @@ pub(crate) fn is_open(day: u32, mask: u8, closed: &[u32]) -> bool
 
 // The first open day of the thirty-one that start at `day`. The scan of the closed dates starts at its place and never goes back.
 fn ahead(place: usize, day: u32, mask: u8, closed: &[u32]) -> Dated
-    requires { ⌜ (657072 ≤ day) × (day < 876217) × LowerBound (now closed) day place ⌝ }
+    requires { ⌜ (SPAN-FIRST ≤ day) × (day ≤ SPAN-LAST) × LowerBound (now closed) day place ⌝ }
     ensures { λ r. ⌜ (closedOk (now (closed .entry)) ≡ true → dated r ≡ firstOpen mask (now (closed .entry)) false 31 day) ⌝ }
 {
     let mut at = place;
@@ -179,7 +180,7 @@ fn ahead(place: usize, day: u32, mask: u8, closed: &[u32]) -> Dated
 
 // The mirror: the first open day of the thirty-one that end at `day`, from the last.
 fn behind(place: usize, day: u32, mask: u8, closed: &[u32]) -> Dated
-    requires { ⌜ (657072 ≤ day) × (day < 876217) × LowerBound (now closed) day place ⌝ }
+    requires { ⌜ (SPAN-FIRST ≤ day) × (day ≤ SPAN-LAST) × LowerBound (now closed) day place ⌝ }
     ensures { λ r. ⌜ (closedOk (now (closed .entry)) ≡ true → dated r ≡ firstOpen mask (now (closed .entry)) true 31 day) ⌝ }
 {
     let mut at = closed_dates::place_after(closed, day, place);
@@ -389,7 +390,7 @@ pub fn adjust_near(day: u32, near: Near, convention: Convention, mask: u8, close
 
 // The convention, or none where no day is closed, which comes to the same and needs no look at the calendar.
 pub fn convention_on(convention: Convention, mask: u8, closed: &[u32]) -> Convention
-    ensures { λ r. ⌜ adjusted mask (now (closed .entry)) r ≡ adjusted mask (now (closed .entry)) convention ⌝ }
+    ensures { λ r. ⌜ r ≡ conventionOn mask (now (closed .entry)) convention ⌝ }
 {
     if mask == 0 {
         if closed.len() == 0 {

@@ -1,8 +1,8 @@
 // Schedules, from a request in numbers.
 ghost use Rattle.request.specs.Format.{decoded};
-ghost use Rattle.report.specs.Bytes.{requestIn, closedIn};
+ghost use Rattle.recorded.specs.Bytes.{requestIn, closedIn};
 ghost use Rattle.crossing.specs.Requests.{requestOf};
-ghost use Rattle.report.specs.Builds.{Reported};
+ghost use Rattle.recorded.specs.Builds.{Reported};
 use crossing::requests;
 
 // Builds a schedule: the dates into the start of `dates`, the flags of the periods between them (1 regular) into the start
@@ -41,7 +41,7 @@ pub extern "C" fn heronspan_build(
         penultimate,
         mask,
     );
-    report::build(request, closed, dates, flags, answer)
+    recorded::build(request, closed, dates, flags, answer)
 }
 
 // The same as `heronspan_build`, from the bytes of a request.
@@ -54,6 +54,5 @@ pub extern "C" fn heronspan_build_bytes(
 ) -> i64
     ensures { λ r. ⌜ Reported (requestIn (decoded (now (bytes .entry)) 4096)) (closedIn (decoded (now (bytes .entry)) 4096)) r (now (dates .entry)) (now (flags .entry)) (now (answer .entry)) (now (dates .exit)) (now (flags .exit)) (now (answer .exit)) ⌝ }
 {
-    let mut closed = [0u32; 4096];
-    report::build_bytes(bytes, &mut closed, dates, flags, answer)
+    recorded::build_bytes(bytes, dates, flags, answer)
 }

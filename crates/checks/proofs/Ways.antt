@@ -3,26 +3,28 @@
 use Prim.Native.Nat.{ℕ}
 use mathlib.Core.Path.{_≡_, refl, sym, _∙_}
 use mathlib.Core.Bool.{Bool, true, false, not, _&&_}
-use mathlib.Core.List.{List, []}
+use mathlib.Core.List.{List, [], _∷_}
 use lib.Dec.{eqb}
-use lib.IntN.{natAbs}
+use denote.Enum.Declared.{tagOf}
+use types.Run.{OneOf}
 use borrow.Author.Needs.{needs}
-use borrow.Author.Tests.{eq-eqb, ne-eqb, not-true, not-false}
-use Rattle.refusal.specs.Answer.{given, refused, need, UNEVEN, BOOK, CALENDAR, NEGATIVE, TENOR, MONTHEND}
-use Rattle.refusal.specs.Laws.{need-given, never-both}
-use Rattle.period.specs.Signed.{isNegative}
+use borrow.Author.Tests.{eq-eqb, ne-eqb, not-true}
+use Rattle.refusal.specs.Answer.{given, refused, need, CALENDAR}
+use Rattle.refusal.specs.Laws.{both, need-given, never-both}
 use Rattle.date.specs.Date.{inBook}
 use Rattle.calendar.specs.declared.Checked.{Checked}
 use Rattle.calendar.specs.declared.Checked.the-variants as checked-is
 use Rattle.calendar.specs.Open.{calendarOk}
-use Rattle.calendar.specs.Calendar.{sound, checked, checkOf, tenorOk}
+use Rattle.calendar.specs.Calendar.{sound, checked, checkOf}
 use Rattle.imm.specs.Imm.{isImm}
 use Rattle.steps.specs.declared.Rule.{Rule}
-use Rattle.steps.specs.declared.Rule.the-variants.{Zero, Backward, Forward, Twentieth, TwentiethIMM, ThirdWednesday, ThirdWednesdayInclusive, OldCDS, CDS, CDS2015}
+use Rattle.steps.specs.declared.Rule.the-variants.{ThirdWednesday}
 use Rattle.steps.specs.declared.Request.{Request}
-use Rattle.steps.specs.Rules.{ruleInForce}
-use Rattle.steps.specs.Table.{numberOr, firstRow, isGiven, anchorOk, datesOk, Kind, by-range, by-imm, by-none, kindOf, outOfRange, notImm, wrongRule, monthendAllowed, inputRows}
-use Rattle.steps.specs.Rows.{row-holds, row-passed, rows-hold, rows-passed, anchorRows, firstRows, lastRows, monthendRows, rowsUnder, input-rows, first-numbered, last-numbered}
+use Rattle.steps.specs.Rules.{rules, ruleNumber, oneOf, ruleInForce}
+use Rattle.steps.specs.RuleLaws.{agree, keep, keysOf, tagsAre, told}
+use Rattle.steps.specs.Table.{numberOr, firstRow, isGiven, anchorOk, datesOk, byRange, byImm, outOfRange, notImm, wrongRule, anchorRows, firstRows, lastRows, rowsUnder}
+use Rattle.steps.specs.Rows.{numbered, row-holds, row-passed, no-rows, rows-hold, rows-passed}
+use Rattle.steps.proofs.Rule.{the-type}
 
 -- ---- dates
 module _ (anchor : ℕ) where
@@ -37,8 +39,8 @@ module _ (anchor : ℕ) where
 pub ruleset anchors = (anchor-absent, anchor-given, needs)
 
 -- the four tests of `datesOk`, over plain truth values
-both : (a b r : Bool) → a ≡ true → r ≡ b → r ≡ (a && b)
-both a b r e h = rw e h
+and-then : (a b r : Bool) → a ≡ true → r ≡ b → r ≡ (a && b)
+and-then a b r e h = rw e h
 
 neither : (a b : Bool) → a ≡ false → false ≡ (a && b)
 neither a b e = rw e
@@ -51,16 +53,16 @@ module _ (q : Request) (a : Bool) (effective : a ≡ inBook (q .effective .day))
   module _ (a-holds : a ≡ true) (b : Bool) (termination : b ≡ inBook (q .termination .day)) where
     pub dates-termination : b ≡ false → false ≡ datesOk q
     unfolding datesOk
-    dates-termination e = both _ _ _ (sym effective ∙ a-holds) (neither _ _ (sym termination ∙ e))
+    dates-termination e = and-then _ _ _ (sym effective ∙ a-holds) (neither _ _ (sym termination ∙ e))
 
     module _ (b-holds : b ≡ true) (d : Bool) (first : d ≡ anchorOk (q .first .day)) where
       pub dates-first : d ≡ false → false ≡ datesOk q
       unfolding datesOk
-      dates-first e = both _ _ _ (sym effective ∙ a-holds) (both _ _ _ (sym termination ∙ b-holds) (neither _ _ (sym first ∙ e)))
+      dates-first e = and-then _ _ _ (sym effective ∙ a-holds) (and-then _ _ _ (sym termination ∙ b-holds) (neither _ _ (sym first ∙ e)))
 
       pub dates-all : (r : Bool) → d ≡ true → r ≡ anchorOk (q .penultimate .day) → r ≡ datesOk q
       unfolding datesOk
-      dates-all r e h = both _ _ _ (sym effective ∙ a-holds) (both _ _ _ (sym termination ∙ b-holds) (both _ _ _ (sym first ∙ e) h))
+      dates-all r e h = and-then _ _ _ (sym effective ∙ a-holds) (and-then _ _ _ (sym termination ∙ b-holds) (and-then _ _ _ (sym first ∙ e) h))
 
 pub ruleset dates-rows = (dates-effective, dates-termination, dates-first, dates-all, needs)
 
@@ -82,169 +84,83 @@ module _ (answer : Checked) (mask : ℕ) (closed : List ℕ) where
   calendar-unsound n h e = sym (refused-fails n (calendarOk mask closed) (sym h ∙ rw e))
 
 -- ---- an anchor's rows
-module _ (anchor : ℕ) (outside : Bool) (range imm wrong : ℕ) where
-  kind-absent : (k : Kind) → anchor ≡ 0 → 0 ≡ firstRow (anchorRows k anchor outside range imm wrong)
-  unfolding firstRow numberOr anchorRows outOfRange notImm wrongRule isGiven
-  kind-absent by-range e = simp (eq-eqb anchor 0 e)
-  kind-absent by-imm e = simp (eq-eqb anchor 0 e)
-  kind-absent by-none e = simp (eq-eqb anchor 0 e)
-
-  module _ (rule : Rule) where
-    pub anchor-none : anchor ≡ 0 → 0 ≡ firstRow (anchorRows (kindOf rule) anchor outside range imm wrong)
-    anchor-none e = kind-absent (kindOf rule) e
-
-    pub anchor-range : (r : ℕ) → kindOf rule ≡ by-range → r ≡ numberOr outside range 0 → (anchor ≡ 0 → ⊥) → r ≡ firstRow (anchorRows (kindOf rule) anchor outside range imm wrong)
-    unfolding firstRow numberOr anchorRows outOfRange notImm wrongRule isGiven
-    anchor-range r k h e = rw k (simp (ne-eqb anchor 0 e) h)
-
-    pub anchor-imm : (r : ℕ) → kindOf rule ≡ by-imm → r ≡ numberOr (not (isImm false anchor)) imm 0 → (anchor ≡ 0 → ⊥) → r ≡ firstRow (anchorRows (kindOf rule) anchor outside range imm wrong)
-    unfolding firstRow numberOr anchorRows outOfRange notImm wrongRule isGiven
-    anchor-imm r k h e = rw k (simp (ne-eqb anchor 0 e) h)
-
-    pub anchor-wrong : kindOf rule ≡ by-none → (anchor ≡ 0 → ⊥) → wrong ≡ firstRow (anchorRows (kindOf rule) anchor outside range imm wrong)
-    unfolding firstRow numberOr anchorRows outOfRange notImm wrongRule isGiven
-    anchor-wrong k e = rw k (simp (ne-eqb anchor 0 e))
+-- to which of them a rule belongs, by the arm of the `match`
+pub record Belongs (rule : Rule) (range imm : Bool) : Type 0 where
+  pub by-range : byRange rule ≡ range
+  pub by-imm : byImm rule ≡ imm
 
 module _ (rule : Rule) where
-  pub kind-Zero : rule ≡ Zero → kindOf rule ≡ by-none
-  unfolding kindOf
-  kind-Zero e = rw e
+  pub with-range : OneOf (1 ∷ 2 ∷ []) (tagOf the-type rule) → Belongs rule true false
+  unfolding byRange byImm oneOf ruleNumber rules agree keep keysOf tagsAre
+  with-range k =
+      let w = both (byRange rule) (not (byImm rule)) (sym (told (tagOf the-type) refl (λ a. byRange a && not (byImm a)) true rule k)) in
+      record { by-range = w .0; by-imm = not-true (byImm rule) (w .1) }
 
-  pub kind-Backward : rule ≡ Backward → kindOf rule ≡ by-range
-  unfolding kindOf
-  kind-Backward e = rw e
+  pub with-imm : rule ≡ ThirdWednesday → Belongs rule false true
+  unfolding byRange byImm oneOf ruleNumber
+  with-imm e = record { by-range = rw e; by-imm = rw e }
 
-  pub kind-Forward : rule ≡ Forward → kindOf rule ≡ by-range
-  unfolding kindOf
-  kind-Forward e = rw e
+  pub with-neither : OneOf (0 ∷ 3 ∷ 4 ∷ 6 ∷ 7 ∷ 8 ∷ 9 ∷ []) (tagOf the-type rule) → Belongs rule false false
+  unfolding byRange byImm oneOf ruleNumber rules agree keep keysOf tagsAre
+  with-neither k =
+      let w = both (not (byRange rule)) (not (byImm rule)) (sym (told (tagOf the-type) refl (λ a. not (byRange a) && not (byImm a)) true rule k)) in
+      record { by-range = not-true (byRange rule) (w .0); by-imm = not-true (byImm rule) (w .1) }
 
-  pub kind-Twentieth : rule ≡ Twentieth → kindOf rule ≡ by-none
-  unfolding kindOf
-  kind-Twentieth e = rw e
+module _ (rule : Rule) (anchor : ℕ) (outside : Bool) (range imm wrong : ℕ) where
+  pub anchor-none : anchor ≡ 0 → 0 ≡ firstRow (anchorRows rule anchor outside range imm wrong)
+  unfolding firstRow numberOr anchorRows outOfRange notImm wrongRule isGiven
+  anchor-none e = simp (eq-eqb anchor 0 e)
 
-  pub kind-TwentiethIMM : rule ≡ TwentiethIMM → kindOf rule ≡ by-none
-  unfolding kindOf
-  kind-TwentiethIMM e = rw e
+  module _ (given : anchor ≡ 0 → ⊥) where
+    pub anchor-range : (r : ℕ) → Belongs rule true false → r ≡ numberOr outside range 0 → r ≡ firstRow (anchorRows rule anchor outside range imm wrong)
+    unfolding firstRow numberOr anchorRows outOfRange notImm wrongRule isGiven
+    anchor-range r w h = simp (ne-eqb anchor 0 given, w .by-range, w .by-imm) h
 
-  pub kind-ThirdWednesday : rule ≡ ThirdWednesday → kindOf rule ≡ by-imm
-  unfolding kindOf
-  kind-ThirdWednesday e = rw e
+    pub anchor-imm : (r : ℕ) → Belongs rule false true → r ≡ numberOr (not (isImm false anchor)) imm 0 → r ≡ firstRow (anchorRows rule anchor outside range imm wrong)
+    unfolding firstRow numberOr anchorRows outOfRange notImm wrongRule isGiven
+    anchor-imm r w h = simp (ne-eqb anchor 0 given, w .by-range, w .by-imm) h
 
-  pub kind-ThirdWednesdayInclusive : rule ≡ ThirdWednesdayInclusive → kindOf rule ≡ by-none
-  unfolding kindOf
-  kind-ThirdWednesdayInclusive e = rw e
+    pub anchor-wrong : Belongs rule false false → wrong ≡ firstRow (anchorRows rule anchor outside range imm wrong)
+    unfolding firstRow numberOr anchorRows outOfRange notImm wrongRule isGiven
+    anchor-wrong w = simp (ne-eqb anchor 0 given, w .by-range, w .by-imm)
 
-  pub kind-OldCDS : rule ≡ OldCDS → kindOf rule ≡ by-none
-  unfolding kindOf
-  kind-OldCDS e = rw e
+pub ruleset anchor-rows = (anchor-none, anchor-range, anchor-imm, anchor-wrong, with-range, with-imm, with-neither, needs)
 
-  pub kind-CDS : rule ≡ CDS → kindOf rule ≡ by-none
-  unfolding kindOf
-  kind-CDS e = rw e
+-- ---- a test of the code and the row that it decides
+module _ (t b : Bool) (p : t ≡ b) where
+  pub test-holds : t ≡ true → b ≡ true
+  test-holds e = sym p ∙ e
 
-  pub kind-CDS2015 : rule ≡ CDS2015 → kindOf rule ≡ by-none
-  unfolding kindOf
-  kind-CDS2015 e = rw e
+  pub test-passed : t ≡ false → b ≡ false
+  test-passed e = sym p ∙ e
 
-pub ruleset anchor-rows =
-    (anchor-none, anchor-range, anchor-imm, anchor-wrong, kind-Zero, kind-Backward, kind-Forward, kind-Twentieth, kind-TwentiethIMM, kind-ThirdWednesday, kind-ThirdWednesdayInclusive, kind-OldCDS, kind-CDS, kind-CDS2015, needs)
+  pub fault-holds : not t ≡ true → not b ≡ true
+  fault-holds e = rw p at e
 
--- ---- the row of end of month
-denied : (a b : Bool) → a ≡ b → a ≡ false → not b ≡ true
-denied a b p e = let h : b ≡ false = cc in rw h
+  pub fault-passed : not t ≡ false → not b ≡ false
+  fault-passed e = rw p at e
 
-granted : (a b : Bool) → a ≡ b → a ≡ true → not b ≡ false
-granted a b p e = let h : b ≡ true = cc in rw h
+module _ (a b : ℕ) where
+  pub differ-holds : (a ≡ b → ⊥) → not (eqb a b) ≡ true
+  differ-holds e = rw (ne-eqb a b e)
 
-last-false : (a b : Bool) → b ≡ false → (a && b) ≡ false
-last-false true b e = e
-last-false false b e = refl
+  pub differ-passed : a ≡ b → not (eqb a b) ≡ false
+  differ-passed e = rw (eq-eqb a b e)
 
-none-left : 0 ≡ firstRow []
-unfolding firstRow
-none-left = refl
+-- a test that is made only where another holds
+pub test-after : (a t b : Bool) → a ≡ true → t ≡ b → not t ≡ (a && not b)
+test-after a t b e p = rw (e, p)
 
-module _ (monthend : Bool) (rule : Rule) where
-  pub monthend-off : monthend ≡ false → 0 ≡ firstRow (monthendRows monthend rule)
-  unfolding firstRow numberOr monthendRows
-  monthend-off e = rw e
+pub under-rule : (q : Request) (rule : Rule) (r : ℕ) → rule ≡ ruleInForce q → r ≡ firstRow (rowsUnder q rule) → r ≡ firstRow (rowsUnder q (ruleInForce q))
+under-rule q rule r e h = rw e at h
 
-  pub monthend-allowed : (a : Bool) → a ≡ monthendAllowed rule → a ≡ true → 0 ≡ firstRow (monthendRows monthend rule)
-  unfolding monthendRows
-  monthend-allowed a p e = row-passed _ _ _ _ (last-false monthend _ (granted a _ p e)) none-left
+pub first-numbered : (q : Request) (rule : Rule) → numbered (firstRows q rule) ≡ true
+unfolding numbered firstRows anchorRows
+first-numbered q rule = refl
 
-  pub monthend-refused : (a : Bool) → monthend ≡ true → a ≡ monthendAllowed rule → a ≡ false → MONTHEND ≡ firstRow (monthendRows monthend rule)
-  unfolding monthendRows
-  monthend-refused a m p e = row-holds _ _ _ (sym (both monthend _ _ m (sym (denied a _ p e))))
+pub last-numbered : (q : Request) (rule : Rule) → numbered (lastRows q rule) ≡ true
+unfolding numbered lastRows anchorRows
+last-numbered q rule = refl
 
-pub ruleset monthend-rows = (monthend-off, monthend-allowed, monthend-refused, needs)
-
--- ---- the rows under the rule in force
-module _ (q : Request) (rule : Rule) where
-  pub under-first : (r : ℕ) → r ≡ firstRow (firstRows q rule) → (r ≡ 0 → ⊥) → r ≡ firstRow (rowsUnder q rule)
-  unfolding rowsUnder
-  under-first r h z = rows-hold (first-numbered q rule) _ r h z
-
-  pub under-last : (x r : ℕ) → x ≡ firstRow (firstRows q rule) → x ≡ 0 → r ≡ firstRow (lastRows q rule) → (r ≡ 0 → ⊥) → r ≡ firstRow (rowsUnder q rule)
-  unfolding rowsUnder
-  under-last x r h z k w = rows-passed (first-numbered q rule) _ x r h z (rows-hold (last-numbered q rule) _ r k w)
-
-  pub under-monthend : (x y r : ℕ) → x ≡ firstRow (firstRows q rule) → x ≡ 0 → y ≡ firstRow (lastRows q rule) → y ≡ 0 → r ≡ firstRow (monthendRows (q .monthend) rule) → r ≡ firstRow (rowsUnder q rule)
-  unfolding rowsUnder
-  under-monthend x y r h z k w m =
-      rows-passed (first-numbered q rule) _ x r h z (rows-passed (last-numbered q rule) _ y r k w m)
-
-pub ruleset under-rule = (under-first, under-last, under-monthend, needs)
-
--- ---- the input rows
-module _ (q : Request) (closed : List ℕ) (dates flags : ℕ) where
-  pub input-uneven : (dates ≡ flags → ⊥) → UNEVEN ≡ firstRow (inputRows q closed dates flags)
-  input-uneven e = rw (input-rows q closed dates flags) (row-holds _ _ _ (denied _ _ refl (ne-eqb dates flags e)))
-
-  module _ (even : dates ≡ flags) where
-    passed-uneven : not (eqb dates flags) ≡ false
-    passed-uneven = granted _ _ refl (eq-eqb dates flags even)
-
-    pub input-book : (d : Bool) → d ≡ datesOk q → d ≡ false → BOOK ≡ firstRow (inputRows q closed dates flags)
-    input-book d p e =
-        rw (input-rows q closed dates flags) (row-passed _ _ _ _ passed-uneven (row-holds _ _ _ (denied d _ p e)))
-
-    module _ (d : Bool) (dated-well : d ≡ datesOk q) (dates-hold : d ≡ true) where
-      pub input-calendar : (s : Bool) → s ≡ calendarOk (q .mask) closed → s ≡ false → CALENDAR ≡ firstRow (inputRows q closed dates flags)
-      input-calendar s p e =
-          rw (input-rows q closed dates flags)
-          (row-passed _ _ _ _ passed-uneven
-          (row-passed _ _ _ _ (granted d _ dated-well dates-hold)
-          (row-holds _ _ _ (denied s _ p e))))
-
-      module _ (s : Bool) (sound-list : s ≡ calendarOk (q .mask) closed) (list-holds : s ≡ true) where
-        pub input-negative : (n : Bool) → n ≡ isNegative (q .tenor .length) → n ≡ true → NEGATIVE ≡ firstRow (inputRows q closed dates flags)
-        input-negative n p e =
-            rw (input-rows q closed dates flags)
-            (row-passed _ _ _ _ passed-uneven
-            (row-passed _ _ _ _ (granted d _ dated-well dates-hold)
-            (row-passed _ _ _ _ (granted s _ sound-list list-holds)
-            (row-holds _ _ _ (sym p ∙ e)))))
-
-        module _ (n : Bool) (sign : n ≡ isNegative (q .tenor .length)) (positive : n ≡ false) where
-          pub input-tenor : (t : Bool) → t ≡ tenorOk (natAbs (q .tenor .length)) (q .tenor .unit) → t ≡ false → TENOR ≡ firstRow (inputRows q closed dates flags)
-          input-tenor t p e =
-              rw (input-rows q closed dates flags)
-              (row-passed _ _ _ _ passed-uneven
-              (row-passed _ _ _ _ (granted d _ dated-well dates-hold)
-              (row-passed _ _ _ _ (granted s _ sound-list list-holds)
-              (row-passed _ _ _ _ (sym sign ∙ positive)
-              (row-holds _ _ _ (denied t _ p e))))))
-
-          pub input-under : (t : Bool) (rule : Rule) (r : ℕ) → t ≡ tenorOk (natAbs (q .tenor .length)) (q .tenor .unit) → t ≡ true → rule ≡ ruleInForce q → r ≡ firstRow (rowsUnder q rule) → r ≡ firstRow (inputRows q closed dates flags)
-          input-under t rule r p e f h =
-              rw (input-rows q closed dates flags)
-              (row-passed _ _ _ _ passed-uneven
-              (row-passed _ _ _ _ (granted d _ dated-well dates-hold)
-              (row-passed _ _ _ _ (granted s _ sound-list list-holds)
-              (row-passed _ _ _ _ (sym sign ∙ positive)
-              (row-passed _ _ _ _ (granted t _ p e)
-              (rw f at h))))))
-
-pub ruleset input-checks =
-    (input-uneven, input-book, input-calendar, input-negative, input-tenor, input-under, not-true, not-false, needs)
+pub ruleset rows =
+    (row-holds, row-passed, rows-hold, rows-passed, no-rows, first-numbered, last-numbered, under-rule, test-holds, test-passed, fault-holds, fault-passed, differ-holds, differ-passed, needs)

@@ -1,10 +1,9 @@
 // The input checks of a build: the rows 1 to 12 of document 01's table, in its order.
 ghost use mathlib.Core.Path.{_≡_};
-ghost use mathlib.Core.Bool.{not, false};
+ghost use mathlib.Core.Bool.{not, false, _&&_};
 ghost use Rattle.calendar.specs.Open.{calendarOk};
 ghost use Rattle.imm.specs.Imm.{isImm};
-ghost use Rattle.steps.specs.Table.{numberOr, firstRow, kindOf, anchorOk, datesOk, firstOutside, lastOutside, monthendAllowed, inputRows};
-ghost use Rattle.steps.specs.Rows.{anchorRows, firstRows, lastRows, monthendRows, rowsUnder};
+ghost use Rattle.steps.specs.Table.{numberOr, firstRow, anchorOk, datesOk, firstOutside, lastOutside, monthendAllowed, anchorRows, firstRows, lastRows, rowsUnder, inputRows};
 use calendar::Checked;
 use date::in_book;
 use steps::Request;
@@ -65,17 +64,19 @@ fn allows_month_end(rule: Rule) -> bool
     ensures { λ r. ⌜ r ≡ monthendAllowed rule ⌝ }
 {
     match rule {
-        Rule::Zero => true,
-        Rule::Backward => true,
-        Rule::Forward => true,
-        Rule::Twentieth => false,
-        Rule::TwentiethIMM => false,
-        Rule::ThirdWednesday => false,
-        Rule::ThirdWednesdayInclusive => false,
-        Rule::OldCDS => false,
-        Rule::CDS => false,
-        Rule::CDS2015 => false,
+        Rule::Zero | Rule::Backward | Rule::Forward => true,
+        _ => false,
     }
+}
+
+// End of month is on, and the rule has none.
+fn denies_month_end(q: Request, rule: Rule) -> bool
+    ensures { λ r. ⌜ r ≡ (q .monthend && not (monthendAllowed rule)) ⌝ }
+{
+    if q.monthend {
+        return !allows_month_end(rule);
+    }
+    false
 }
 
 fn number_if(holds: bool, number: u8) -> u8
@@ -95,22 +96,15 @@ fn unless_imm(anchor: u32, number: u8) -> u8
 
 // The rows of one anchor, numbered as given: out of range, not an IMM date, wrong rule.
 fn anchor_refusal(rule: Rule, anchor: u32, outside: bool, range: u8, imm: u8, wrong: u8) -> u8
-    ensures { λ r. ⌜ r ≡ firstRow (anchorRows (kindOf rule) anchor outside range imm wrong) ⌝ }
+    ensures { λ r. ⌜ r ≡ firstRow (anchorRows rule anchor outside range imm wrong) ⌝ }
 {
     if anchor == 0 {
         return 0;
     }
     match rule {
-        Rule::Zero => wrong,
-        Rule::Backward => number_if(outside, range),
-        Rule::Forward => number_if(outside, range),
-        Rule::Twentieth => wrong,
-        Rule::TwentiethIMM => wrong,
+        Rule::Backward | Rule::Forward => number_if(outside, range),
         Rule::ThirdWednesday => unless_imm(anchor, imm),
-        Rule::ThirdWednesdayInclusive => wrong,
-        Rule::OldCDS => wrong,
-        Rule::CDS => wrong,
-        Rule::CDS2015 => wrong,
+        _ => wrong,
     }
 }
 
@@ -140,18 +134,6 @@ fn last_refusal(q: Request, rule: Rule) -> u8
     )
 }
 
-fn monthend_refusal(monthend: bool, rule: Rule) -> u8
-    ensures { λ r. ⌜ r ≡ firstRow (monthendRows monthend rule) ⌝ }
-{
-    if monthend {
-        if allows_month_end(rule) {
-            return 0;
-        }
-        return refusal::MONTHEND;
-    }
-    0
-}
-
 // The rows that read the rule in force, 6 to 12.
 fn refusal_under(q: Request, rule: Rule) -> u8
     ensures { λ r. ⌜ r ≡ firstRow (rowsUnder q rule) ⌝ }
@@ -164,7 +146,10 @@ fn refusal_under(q: Request, rule: Rule) -> u8
     if last != 0 {
         return last;
     }
-    monthend_refusal(q.monthend, rule)
+    if denies_month_end(q, rule) {
+        return refusal::MONTHEND;
+    }
+    0
 }
 
 // The number of the first row that holds, or 0: `dates` and `flags` are the lengths of the lent lists.

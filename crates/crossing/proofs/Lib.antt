@@ -1,4 +1,3 @@
 pub mod Counting
 pub mod Places
 pub mod Naming
-pub mod Rows

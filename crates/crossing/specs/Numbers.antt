@@ -7,9 +7,9 @@ use Rattle.refusal.specs.Answer.{Answer, given, refused, REQUEST}
 use Rattle.period.specs.declared.Unit.{Unit}
 use Rattle.period.specs.declared.Unit.the-variants.{Days, Weeks, Months, Years}
 use Rattle.calendar.specs.declared.Convention.{Convention}
-use Rattle.calendar.specs.declared.Convention.the-variants.{Unadjusted, Following, ModifiedFollowing, Preceding, ModifiedPreceding}
+use Rattle.calendar.specs.Adjust.{conventions}
 use Rattle.steps.specs.declared.Rule.{Rule}
-use Rattle.steps.specs.declared.Rule.the-variants.{Zero, Backward, Forward, Twentieth, TwentiethIMM, ThirdWednesday, ThirdWednesdayInclusive, OldCDS, CDS, CDS2015}
+use Rattle.steps.specs.Rules.{rules}
 use Rattle.crossing.specs.declared.NamedUnit.{NamedUnit}
 use Rattle.crossing.specs.declared.NamedUnit.the-variants as unit-is
 use Rattle.crossing.specs.declared.NamedRule.{NamedRule}
@@ -28,16 +28,16 @@ unfoldable pub unitOf : ℕ → Answer Unit
 unitOf = atPlace (Days ∷ Weeks ∷ Months ∷ Years ∷ [])
 
 unfoldable pub ruleOf : ℕ → Answer Rule
-ruleOf = atPlace (Zero ∷ Backward ∷ Forward ∷ Twentieth ∷ TwentiethIMM ∷ ThirdWednesday ∷ ThirdWednesdayInclusive ∷ OldCDS ∷ CDS ∷ CDS2015 ∷ [])
+ruleOf = atPlace rules
 
 unfoldable pub conventionOf : ℕ → Answer Convention
-conventionOf = atPlace (Unadjusted ∷ Following ∷ ModifiedFollowing ∷ Preceding ∷ ModifiedPreceding ∷ [])
+conventionOf = atPlace conventions
 
 -- off or on
 unfoldable pub flagOf : ℕ → Answer Bool
 flagOf = atPlace (false ∷ true ∷ [])
 
--- ---- and back: the number of a unit (that of a rule is `ruleNumber`)
+-- ---- and back: the number of a unit (those of rules and conventions are `ruleNumber` and `conventionNumber`)
 unfoldable pub unitNumber : Unit → ℕ
 unitNumber Days = 0
 unitNumber Weeks = 1

@@ -5,15 +5,19 @@ use mathlib.Core.Path.{_≡_, refl}
 use mathlib.Core.List.{[], _∷_}
 use lib.IntN.{pos, negsuc, pos-ne-negsuc}
 use Rattle.refusal.specs.Answer.{Answer, given, refused, need}
+use Rattle.refusal.specs.Refusals.{refusals, pick, ofNumber, letters, nameOfNumber}
 use Rattle.period.specs.declared.Unit.{Unit}
 use Rattle.period.specs.declared.Unit.the-variants.{Days, Weeks, Months, Years}
 use Rattle.date.specs.Date.{inBook, compareOf}
+use Rattle.calendar.specs.declared.Convention.{Convention}
+use Rattle.calendar.specs.declared.Convention.the-variants.{Unadjusted, Following, ModifiedFollowing, Preceding, ModifiedPreceding}
+use Rattle.calendar.specs.Adjust.{conventions, conventionNumber}
 use Rattle.steps.specs.declared.Rule.{Rule}
 use Rattle.steps.specs.declared.Rule.the-variants.{Zero, Backward, Forward, Twentieth, TwentiethIMM, ThirdWednesday, ThirdWednesdayInclusive, OldCDS, CDS, CDS2015}
-use Rattle.steps.specs.Rules.{ruleNumber}
+use Rattle.steps.specs.Rules.{rules, ruleNumber}
 use Rattle.crossing.specs.Answers.{oneNumber, place}
-use Rattle.crossing.specs.Names.{letters, names, nameAt, nameOf}
-use Rattle.crossing.specs.Numbers.{atPlace, unitOf, ruleOf, flagOf, unitNumber}
+use Rattle.crossing.specs.Names.{nameOf}
+use Rattle.crossing.specs.Numbers.{atPlace, unitOf, ruleOf, conventionOf, flagOf, unitNumber}
 
 -- an answer below zero is a refusal, and its number is the refusal's
 pub below-zero : {A : Type 0} (f : A → ℕ) (a : Answer A) (n : ℕ) → oneNumber f a ≡ negsuc n → a ≡ refused (suc n)
@@ -29,7 +33,7 @@ missing-date d = refl
 
 -- numbers and names agree, and there is no rule 10 and no flag 2
 pub rule-numbered : (r : Rule) → ruleOf (ruleNumber r) ≡ given r
-unfolding ruleOf atPlace ruleNumber
+unfolding ruleOf rules atPlace ruleNumber
 rule-numbered Zero = refl
 rule-numbered Backward = refl
 rule-numbered Forward = refl
@@ -41,6 +45,14 @@ rule-numbered OldCDS = refl
 rule-numbered CDS = refl
 rule-numbered CDS2015 = refl
 
+pub convention-numbered : (c : Convention) → conventionOf (conventionNumber c) ≡ given c
+unfolding conventionOf conventions atPlace conventionNumber
+convention-numbered Unadjusted = refl
+convention-numbered Following = refl
+convention-numbered ModifiedFollowing = refl
+convention-numbered Preceding = refl
+convention-numbered ModifiedPreceding = refl
+
 pub unit-numbered : (u : Unit) → unitOf (unitNumber u) ≡ given u
 unfolding unitOf atPlace unitNumber
 unit-numbered Days = refl
@@ -49,7 +61,7 @@ unit-numbered Months = refl
 unit-numbered Years = refl
 
 pub no-rule-ten : ruleOf 10 ≡ refused 17
-unfolding ruleOf atPlace
+unfolding ruleOf rules atPlace
 no-rule-ten = refl
 
 pub no-flag-two : flagOf 2 ≡ refused 17
@@ -58,11 +70,11 @@ no-flag-two = refl
 
 -- refusal 2 is BOOK; there is no refusal 18, and a value has no name
 pub book-named : nameOf (negsuc 1) ≡ 66 ∷ 79 ∷ 79 ∷ 75 ∷ []
-unfolding nameOf nameAt names letters
+unfolding nameOf nameOfNumber ofNumber pick refusals letters
 book-named = refl
 
 pub no-eighteenth : nameOf (negsuc 17) ≡ []
-unfolding nameOf nameAt names
+unfolding nameOf nameOfNumber ofNumber pick refusals
 no-eighteenth = refl
 
 pub value-unnamed : (n : ℕ) → nameOf (pos n) ≡ []

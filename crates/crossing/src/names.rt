@@ -1,46 +1,25 @@
 // The names of the refusals, in ASCII.
 ghost use mathlib.Core.Path.{_≡_};
 ghost use Prim.Native.Nat.{_≤_};
-ghost use lib.ListN.{length};
+ghost use lib.ListN.{length, take};
 ghost use Rattle.steps.specs.Build.{over};
-ghost use Rattle.crossing.specs.Names.{names, joined, nameAt, nameOf, Spelled, Row};
+ghost use Rattle.crossing.specs.Names.{nameOf, Spelled, Naming};
 use crate::answers;
+use refusal::Row;
 
-// Where the name of each row starts, and behind them where the last one ends; the last row is empty.
-const STARTS: [usize; 19] = [
-    0,
-    6,
-    10,
-    18,
-    26,
-    31,
-    41,
-    54,
-    70,
-    79,
-    91,
-    106,
-    114,
-    120,
-    124,
-    133,
-    137,
-    144,
-    144,
-];
-
-// The row of the refusal that an answer gives; the last row where it gives none.
-fn row_of(answer: i64) -> usize
-    ensures { λ r. ⌜ Row answer r ⌝ }
+// The row of the refusal that an answer gives; one with no name where it gives none.
+fn row_of(answer: i64) -> Row
+    ensures { λ r. ⌜ Naming answer r ⌝ }
 {
-    if answer < 0 {
-        let row = -(answer + 1);
-        if row < 17 {
-            return row as usize;
+    let mut k = 0;
+    while k < refusal::ROWS.len() {
+        let row = refusal::ROWS[k];
+        if answers::minus(row.0) == answer {
+            return row;
         }
-        return 17;
+        k += 1;
     }
-    17
+    Row(0, 0, [0; 16])
 }
 
 fn put_letters(name: &[u8], text: &mut [u8])
@@ -65,25 +44,13 @@ fn put_name(name: &[u8], text: &mut [u8]) -> i64
     name.len() as i64
 }
 
-// `letters` has the names of all rows, one after the other.
-fn put_row(letters: &[u8], row: usize, text: &mut [u8]) -> i64
-    requires { ⌜ (now letters ≡ joined names) × (row ≤ 17) ⌝ }
-    ensures { λ r. ⌜ Spelled (nameAt names row) r (now (text .entry)) (now (text .exit)) ⌝ }
-{
-    let from = STARTS[row];
-    let to = STARTS[row + 1];
-    put_name(&letters[from..to], text)
-}
-
 // Writes the name of the refusal that an answer gives over the start of `text`, and answers how many letters it has. An answer
 // that is no refusal has the empty name.
 pub fn put_refusal(answer: i64, text: &mut [u8]) -> i64
     ensures { λ r. ⌜ Spelled (nameOf answer) r (now (text .entry)) (now (text .exit)) ⌝ }
 {
     let row = row_of(answer);
-    put_row(
-        b"UNEVENBOOKCALENDARNEGATIVETENORFIRST_DATEFIRST_NOT_IMMFIRST_WRONG_RULELAST_DATELAST_NOT_IMMLAST_WRONG_RULEMONTHENDCLOSEDROOMCOLLAPSEDCODEREQUEST",
-        row,
-        text,
-    )
+    let length = row.1;
+    let name = row.2;
+    put_name(&name[..length], text)
 }

@@ -50,12 +50,18 @@ compared compared-is.Same = given same
 compared compared-is.After = given after
 compared (compared-is.Refused n) = refused n
 
--- ---- the book, and the span of results
+-- ---- the book, and the span of results: 1800-01-01 to 2399-12-31
 unfoldable pub inBook : ℕ → Bool
 inBook n = leb 693961 n && leb n 803168
 
+abbrev pub SPAN-FIRST : ℕ
+SPAN-FIRST = 657072
+
+abbrev pub SPAN-LAST : ℕ
+SPAN-LAST = 876216
+
 unfoldable pub withinSpan : ℕ → Answer ℕ
-withinSpan n = need BOOK (leb 657072 n) (need BOOK (leb n 876216) (given n))
+withinSpan n = need BOOK (leb SPAN-FIRST n) (need BOOK (leb n SPAN-LAST) (given n))
 
 -- ---- make and fields
 unfoldable pub makeOf : ℕ → ℕ → ℕ → Answer ℕ

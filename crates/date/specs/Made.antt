@@ -1,6 +1,6 @@
 -- Laws of answers that are days, and of `makeOf`: what each test refuses, and what an answer that is a day tells.
 -- Assumes nothing.
-use Prim.Native.Nat.{ℕ, _+_, _-_, _≤_, _<_}
+use Prim.Native.Nat.{ℕ, suc, _+_, _-_, _≤_, _<_}
 use mathlib.Core.Path.{_≡_, refl, ap, _∙_, sym}
 use mathlib.Core.Bool.{true}
 use native.Mathlib.Omega.{arith}
@@ -12,7 +12,7 @@ use Rattle.date.specs.declared.Date.{Date}
 use Rattle.date.specs.declared.Dated.{Dated}
 use Rattle.date.specs.declared.Dated.the-variants.{Day, Refused}
 use Rattle.date.specs.Civil.{pickN, leap, rowOf, gone, sumTo, dayNumber, monthLength}
-use Rattle.date.specs.Date.{dated, makeOf}
+use Rattle.date.specs.Date.{SPAN-FIRST, SPAN-LAST, dated, makeOf}
 use Rattle.date.specs.Years.{gone-suc, gone-le}
 use Rattle.date.specs.Round.{Valid, day-in-year}
 
@@ -97,11 +97,11 @@ made y m d n h =
       number = let q = p₆ .1 in cc;
     }
 
-gone-1799 : gone 1799 ≡ 657071
+gone-1799 : suc (gone 1799) ≡ SPAN-FIRST
 unfolding gone
 gone-1799 = refl
 
-gone-2399 : gone 2399 ≡ 876216
+gone-2399 : gone 2399 ≡ SPAN-LAST
 unfolding gone
 gone-2399 = refl
 
@@ -118,7 +118,7 @@ made-in-year y m d n h =
     (omega arith, omega (arith, year-end y (omega arith)))
 
 -- a day made is one of those that results may be
-pub made-within : (y m d n : ℕ) → Made y m d n → (657072 ≤ n) × (n ≤ 876216)
+pub made-within : (y m d n : ℕ) → Made y m d n → (SPAN-FIRST ≤ n) × (n ≤ SPAN-LAST)
 made-within y m d n h =
     let i = made-in-year y m d n h in
     (omega (arith, gone-1799, gone-le 1799 (y - 1) (omega arith)), omega (arith, gone-2399, gone-le y 2399 (omega arith)))

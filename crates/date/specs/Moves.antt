@@ -15,7 +15,7 @@ use Rattle.refusal.specs.Answer.{Answer, given, refused, then, BOOK}
 use Rattle.refusal.specs.Laws.{fails, after, holds, both}
 use Rattle.date.specs.declared.Fields.{Fields}
 use Rattle.date.specs.Civil.{monthLength, dayNumber, fieldsAt, fieldsOf, weekdayOf, daysUntil}
-use Rattle.date.specs.Date.{inBook, makeOf, withinSpan, step, inMonth, nthWeekdayOf}
+use Rattle.date.specs.Date.{SPAN-FIRST, SPAN-LAST, inBook, makeOf, withinSpan, step, inMonth, nthWeekdayOf}
 use Rattle.date.specs.Years.{years-few}
 use Rattle.date.specs.Round.{Valid, fields-valid}
 use Rattle.date.specs.Months.{length-le, length-ge}
@@ -53,17 +53,17 @@ step-on false n k r e h = h
 
 -- ---- the span
 module _ (n : ℕ) where
-  pub span-early : n < 657072 → refused BOOK ≡ withinSpan n
+  pub span-early : n < SPAN-FIRST → refused BOOK ≡ withinSpan n
   unfolding withinSpan
-  span-early h = fails BOOK _ _ (lt-leb 657072 n h)
+  span-early h = fails BOOK _ _ (lt-leb SPAN-FIRST n h)
 
-  pub span-late : 876216 < n → refused BOOK ≡ withinSpan n
+  pub span-late : SPAN-LAST < n → refused BOOK ≡ withinSpan n
   unfolding withinSpan
-  span-late h = after BOOK _ _ (fails BOOK _ _ (lt-leb n 876216 h))
+  span-late h = after BOOK _ _ (fails BOOK _ _ (lt-leb n SPAN-LAST h))
 
-  pub span-in : 657072 ≤ n → n ≤ 876216 → given n ≡ withinSpan n
+  pub span-in : SPAN-FIRST ≤ n → n ≤ SPAN-LAST → given n ≡ withinSpan n
   unfolding withinSpan
-  span-in a b = holds BOOK _ _ _ (le-leb 657072 n a) (holds BOOK _ _ _ (le-leb n 876216 b) refl)
+  span-in a b = holds BOOK _ _ _ (le-leb SPAN-FIRST n a) (holds BOOK _ _ _ (le-leb n SPAN-LAST b) refl)
 
 -- a month after December 2399 is refused
 pub month-late : (t d : ℕ) → 28799 < t → refused BOOK ≡ inMonth t d

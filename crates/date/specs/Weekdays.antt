@@ -9,7 +9,7 @@ use borrow.Author.Tests.{leb-true, eqb-true, eqb-false}
 use Rattle.refusal.specs.Answer.{given, need, then, BOOK}
 use Rattle.refusal.specs.Laws.{need-given, then-stepped, then-given}
 use Rattle.date.specs.Civil.{pickN, weekdayOf, daysUntil, dayNumber, monthLength}
-use Rattle.date.specs.Date.{inBook, makeOf, withinSpan, nextWeekdayOf, nthWeekdayOf}
+use Rattle.date.specs.Date.{SPAN-FIRST, SPAN-LAST, inBook, makeOf, withinSpan, nextWeekdayOf, nthWeekdayOf}
 use Rattle.date.specs.Months.{length-le}
 use Rattle.date.specs.Made.{Made, made, make-ok}
 use Rattle.date.specs.Moves.{nth-of}
@@ -76,7 +76,7 @@ module _ (n w : ℕ) (first : 1 ≤ w) (last : w ≤ 7) where
 
 span-given : (n r : ℕ) → withinSpan n ≡ given r → r ≡ n
 unfolding withinSpan
-span-given n r h = let q = need-given BOOK (leb n 876216) _ r (need-given BOOK (leb 657072 n) _ r h .1) .1 in cc
+span-given n r h = let q = need-given BOOK (leb n SPAN-LAST) _ r (need-given BOOK (leb SPAN-FIRST n) _ r h .1) .1 in cc
 
 pub next-weekday-is-first : (n w r : ℕ) → nextWeekdayOf n w ≡ given r → First n w r
 unfolding nextWeekdayOf

@@ -7,12 +7,16 @@ use crate::Dated;
 use crate::civil;
 use period::Unit;
 
+pub const FIRST: u32 = 657072;
+
+pub const LAST: u32 = 876216;
+
 // The day, or refusal 2 where it lies outside.
 pub fn within(n: u64) -> Dated
     ensures { λ r. ⌜ dated r ≡ withinSpan n ⌝ }
 {
-    if 657072 <= n {
-        if n <= 876216 {
+    if FIRST as u64 <= n {
+        if n <= LAST as u64 {
             return Dated::Day(Date { day: n as u32 });
         }
     }

@@ -5,7 +5,6 @@ use mathlib.Core.Bool.{true, false}
 use mathlib.Core.List.{List}
 use Prim.Native.Nat.{ℕ, zero, suc, _-_, _*_, _≤_, _<_}
 use native.Mathlib.Omega.{arith}
-use lib.IntN.{pos}
 use lib.ListN.{length, take, drop, length-drop}
 use lib.Seq.{length-take-le, take-all}
 use mir.Syntax.{w64}
@@ -13,17 +12,15 @@ use mir.Val.{Fits}
 use borrow.Author.Tests.{lt-leb}
 use borrow.Author.Needs.{needs}
 use Rattle.refusal.specs.Answer.{given, refused, then}
-use Rattle.period.specs.declared.Unit.the-variants.{Days}
 use Rattle.period.specs.declared.Period.{Period}
 use Rattle.calendar.specs.Open.{closedOk}
 use Rattle.steps.specs.declared.Rule.{Rule}
-use Rattle.steps.specs.declared.Rule.the-variants.{Zero}
 use Rattle.steps.specs.declared.Request.{Request}
 use Rattle.steps.specs.declared.Built.{Built}
 use Rattle.steps.specs.Rules.{ruleInForce, tenorInForce}
 use Rattle.steps.specs.Finish.{Merged, mergeEnd, mergeFront, mergeFrontIf, meetAtFront, wednesdays}
 use Rattle.steps.specs.Fewer.{fewAdjustments, keptFinish}
-use Rattle.steps.specs.Build.{answered, over, datesAfter, flagsAfter, Written}
+use Rattle.steps.specs.Build.{refusedBuilt, answered, over, datesAfter, flagsAfter, Written}
 use Rattle.finish.specs.declared.merges.Start.{Start}
 use Rattle.finish.specs.declared.merges.Start.the-variants as start-is
 use Rattle.finish.specs.declared.moving.Done.{Done}
@@ -31,12 +28,7 @@ use Rattle.finish.specs.declared.moving.Done.the-variants.{Whole, Refuse
 use Rattle.finish.specs.Moving.{done}
 use Rattle.finish.specs.Ends.{EndMerged, leftFrom, Short, FrontMerged}
 use Rattle.finish.specs.Lending.{written-refused, written-as}
-use Rattle.finish.specs.Finishing.{refusedBuilt, acceptedBuilt, pair, scheduled, merges, Lent}
-
--- ---- a refusal writes nothing
-pub refused-is : (n : ℕ) → record { number = n; count = 0; tries = 0; rule = Zero; tenor = record { length = pos 0; unit = Days } } ≡ refusedBuilt n
-unfolding refusedBuilt
-refused-is n = refl
+use Rattle.finish.specs.Finishing.{acceptedBuilt, pair, scheduled, merges, Lent}
 
 -- ---- writing out
 pub accepted-is : (q : Request) (count tries : ℕ) (rule : Rule) (tenor : Period) → rule ≡ ruleInForce q → tenor ≡ tenorInForce q → record { number = 0; count = count; tries = tries; rule = rule; tenor = tenor } ≡ acceptedBuilt q count tries

@@ -1,7 +1,7 @@
 -- Dates moved in place: the invariant of the loop, and a law for each way through it.
 -- Assumes nothing.
 use mathlib.Core.Path.{_≡_, refl, ap, sym, _∙_}
-use mathlib.Core.Bool.{Bool, true, false}
+use mathlib.Core.Bool.{Bool, true, false, false≢true, not, _&&_}
 use mathlib.Core.List.{List, [], _∷_, _++_, append-nil}
 use Prim.Native.Nat.{ℕ, suc, _+_, _-_, _≤_, _<_}
 use native.Mathlib.Numerals.{add-one}
@@ -10,6 +10,8 @@ use lib.ListN.{length, getD, take, drop, set, length-set, drop-of-length-le, tak
 use lib.Seq.{append-snoc, drop-cons, take-all, take-suc-set, drop-set-lt}
 use borrow.Author.Needs.{needs}
 use borrow.Rule.Slice.PartMut.{putMid, post-is}
+use denote.Enum.Declared.{tagOf}
+use types.Run.{OneOf}
 use Rattle.refusal.specs.Answer.{Answer, given, refused, then}
 use Rattle.date.specs.declared.Date.{Date}
 use Rattle.date.specs.declared.Dated.{Dated}
@@ -20,6 +22,7 @@ use Rattle.calendar.specs.declared.Convention.{Convention}
 use Rattle.calendar.specs.declared.Decided.{Decided}
 use Rattle.calendar.specs.declared.Decided.the-variants as decided-is
 use Rattle.calendar.specs.Open.{closedOk}
+use Rattle.calendar.specs.Always.{conventionOn, on-as}
 use Rattle.calendar.specs.Adjust.{adjusted}
 use Rattle.calendar.specs.Calendar.{decided}
 use Rattle.steps.specs.declared.Move.{Move}
@@ -27,7 +30,10 @@ use Rattle.steps.specs.declared.Move.the-variants.{ThirdWednesdays}
 use Rattle.steps.specs.declared.Rule.{Rule}
 use Rattle.steps.specs.declared.Rule.the-variants.{ThirdWednesday, ThirdWednesdayInclusive}
 use Rattle.steps.specs.declared.Request.{Request}
-use Rattle.steps.specs.Finish.{moved, each, between, onFirst, onLast, onMiddle, firstMove, lastMove, middleMove, seedAtEnd, wednesdays}
+use Rattle.steps.specs.Rules.{rules, ruleNumber, oneOf}
+use Rattle.steps.specs.RuleLaws.{agree, keep, keysOf, tagsAre, told}
+use Rattle.steps.proofs.Rule.{the-type}
+use Rattle.steps.specs.Finish.{moved, each, between, onFirst, onLast, onMiddle, firstMove, lastMove, middleMove, seedAtEnd, wednesdaysBy, wednesdays}
 use Rattle.steps.specs.Fewer.{settles, middleUnless, lastAndMiddle, fewAdjustments}
 use Rattle.finish.specs.declared.moving.Done.{Done}
 use Rattle.finish.specs.declared.moving.Done.the-variants.{Whole, Refused}
@@ -135,12 +141,25 @@ pub ruleset middles = (middle-none, middle-some, needs)
 -- ---- the third Wednesdays
 module _ {P : Type 0} (ok : P) (rule : Rule) (mask : ℕ) (closed ds ds′ : List ℕ) (r : Done) where
   pub wednesdays-middle : rule ≡ ThirdWednesday → (P → done r ds′ ≡ onMiddle (moved mask closed ThirdWednesdays) ds) → done r ds′ ≡ wednesdays rule mask closed ds
-  unfolding wednesdays
+  unfolding wednesdays wednesdaysBy oneOf ruleNumber
   wednesdays-middle e h = rw e (h ok)
 
   pub wednesdays-all : rule ≡ ThirdWednesdayInclusive → (P → done r ds′ ≡ each (moved mask closed ThirdWednesdays) ds) → done r ds′ ≡ wednesdays rule mask closed ds
-  unfolding wednesdays
+  unfolding wednesdays wednesdaysBy oneOf ruleNumber
   wednesdays-all e h = rw e (h ok)
+
+-- under every other rule the dates stay
+by-none : (a b : Bool) (mask : ℕ) (closed ds : List ℕ) → (not a && not b) ≡ true → given ds ≡ wednesdaysBy a b mask closed ds
+unfolding wednesdaysBy
+by-none true b mask closed ds h = absurd (false≢true h)
+by-none false true mask closed ds h = absurd (false≢true h)
+by-none false false mask closed ds h = refl
+
+pub wednesdays-none : (rule : Rule) (mask : ℕ) (closed ds : List ℕ) → OneOf (0 ∷ 1 ∷ 2 ∷ 3 ∷ 4 ∷ 7 ∷ 8 ∷ 9 ∷ []) (tagOf the-type rule) → given ds ≡ wednesdays rule mask closed ds
+unfolding wednesdays oneOf ruleNumber rules agree keep keysOf tagsAre
+wednesdays-none rule mask closed ds k =
+    by-none (oneOf rule (ThirdWednesday ∷ [])) (oneOf rule (ThirdWednesdayInclusive ∷ [])) mask closed ds
+    (sym (told (tagOf the-type) refl (λ a. not (oneOf a (ThirdWednesday ∷ [])) && not (oneOf a (ThirdWednesdayInclusive ∷ []))) true rule k))
 
 -- ---- one step after another
 module _ {A : Type 0} (f : List ℕ → Answer A) (o : Answer (List ℕ)) (r : Done) (ds : List ℕ) (p : done r ds ≡ o) where
@@ -173,11 +192,11 @@ module _ (q : Request) (closed : List ℕ) (seed : ℕ) (ds : List ℕ) where
       unfolding middleUnless decided then
       seed-at-end e w = rw (← a, l, ← p ok, e, ← w) (m ok)
 
-      pub seed-within : (way : Convention) → adjusted (q .mask) closed way ≡ adjusted (q .mask) closed (q .convention) → end ≡ decided-is.No → what ≡ middleMove false way → done r ds′ ≡ middleUnless (settles q) q closed seed ds
+      pub seed-within : (way : Convention) → way ≡ conventionOn (q .mask) closed (q .convention) → end ≡ decided-is.No → what ≡ middleMove false way → done r ds′ ≡ middleUnless (settles q) q closed seed ds
       unfolding middleUnless decided then
-      seed-within way alike e w =
+      seed-within way on e w =
           rw (← a, l, ← p ok, e)
-          (rw w at (m ok) ∙ ap (λ (f : ℕ → Answer ℕ). onMiddle f ds) (move-alike (q .mask) closed way (q .convention) alike))
+          (rw w at (m ok) ∙ ap (λ (f : ℕ → Answer ℕ). onMiddle f ds) (move-alike (q .mask) closed way (q .convention) (on-as (q .mask) closed way (q .convention) on)))
 
   module _ (ok : closedOk closed ≡ true) (what : Move) (r : Done) (ds₁ : List ℕ) where
     module _ (w : what ≡ lastMove q) (p : closedOk closed ≡ true → done r ds₁ ≡ onLast (moved (q .mask) closed what) ds) where

@@ -5,12 +5,9 @@ use mathlib.Core.Path.{_≡_}
 use mathlib.Core.Bool.{_&&_}
 use mathlib.Core.List.{List}
 use lib.Dec.{eqb, leb}
-use lib.IntN.{pos}
 use lib.ListN.{length}
 use Rattle.refusal.specs.Answer.{Answer, given, refused, then, UNEVEN, ROOM}
 use Rattle.date.specs.Civil.{pickN}
-use Rattle.period.specs.declared.Unit.the-variants.{Days}
-use Rattle.steps.specs.declared.Rule.the-variants.{Zero}
 use Rattle.steps.specs.declared.Request.{Request}
 use Rattle.steps.specs.declared.Built.{Built}
 use Rattle.steps.specs.Rules.{ruleInForce, tenorInForce}
@@ -36,9 +33,6 @@ unfoldable pub merges : List ℕ → List ℕ → Answer Merged
 merges fs ds = mergeFront (mergeEnd ds fs)
 
 -- ---- the answer's record
-unfoldable pub refusedBuilt : ℕ → Built
-refusedBuilt n = record { number = n; count = 0; tries = 0; rule = Zero; tenor = record { length = pos 0; unit = Days } }
-
 unfoldable pub acceptedBuilt : Request → ℕ → ℕ → Built
 acceptedBuilt q count tries =
     record { number = 0; count = count; tries = tries; rule = ruleInForce q; tenor = tenorInForce q }

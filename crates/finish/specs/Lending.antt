@@ -13,8 +13,8 @@ use Rattle.date.specs.Civil.{pickN}
 use Rattle.steps.specs.declared.Request.{Request}
 use Rattle.steps.specs.Fewer.{keptFinish}
 use Rattle.steps.specs.declared.Built.{Built}
-use Rattle.steps.specs.Build.{Schedule, Written, answered, datesAfter, flagsAfter}
-use Rattle.finish.specs.Finishing.{Lent, lentRefusal, unlessRefused, completed, scheduled, refusedBuilt}
+use Rattle.steps.specs.Build.{Schedule, Written, refusedBuilt, answered, datesAfter, flagsAfter}
+use Rattle.finish.specs.Finishing.{Lent, lentRefusal, unlessRefused, completed, scheduled}
 
 module _ (work marks dates flags : ℕ) where
   pub uneven-lent : (dates ≡ flags → ⊥) → UNEVEN ≡ lentRefusal work marks dates flags
@@ -57,7 +57,7 @@ lent-fits l = let m = l .most in let f = l .fits in room-for _ _ _ _ (l .even) (
 
 -- ---- what was written
 pub written-refused : (q : Request) (n : ℕ) (r : Built) (dates flags : List ℕ) → r ≡ refusedBuilt n → Written q (refused n) r dates flags dates flags
-unfolding answered datesAfter flagsAfter refusedBuilt
+unfolding answered datesAfter flagsAfter
 written-refused q n r dates flags e = record { answer = e; dates-after = refl; flags-after = refl }
 
 pub written-as : (q : Request) (o o′ : Answer Schedule) (r : Built) (dates flags dates′ flags′ : List ℕ) → o ≡ o′ → Written q o r dates flags dates′ flags′ → Written q o′ r dates flags dates′ flags′

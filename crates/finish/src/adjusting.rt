@@ -48,11 +48,6 @@ pub(crate) fn third_wednesdays(rule: Rule, mask: u8, closed: &[u32], dates: &mut
     ensures { λ r. ⌜ (closedOk (now (closed .entry)) ≡ true → done r (now (dates .exit)) ≡ wednesdays rule mask (now (closed .entry)) (now (dates .entry))) ⌝ }
 {
     match rule {
-        Rule::Zero => Done::Whole,
-        Rule::Backward => Done::Whole,
-        Rule::Forward => Done::Whole,
-        Rule::Twentieth => Done::Whole,
-        Rule::TwentiethIMM => Done::Whole,
         Rule::ThirdWednesday => move_middle(dates, Move::ThirdWednesdays, mask, closed),
         Rule::ThirdWednesdayInclusive => moving::move_all(
             dates,
@@ -60,9 +55,7 @@ pub(crate) fn third_wednesdays(rule: Rule, mask: u8, closed: &[u32], dates: &mut
             mask,
             closed,
         ),
-        Rule::OldCDS => Done::Whole,
-        Rule::CDS => Done::Whole,
-        Rule::CDS2015 => Done::Whole,
+        _ => Done::Whole,
     }
 }
 

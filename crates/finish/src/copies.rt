@@ -4,24 +4,24 @@ ghost use Prim.Native.Nat.{_≤_};
 ghost use lib.ListN.{length};
 ghost use Rattle.steps.specs.Build.{over};
 
-pub(crate) fn copy_dates(src: &[u32], dst: &mut [u32])
-    requires { ⌜ length (now src) ≤ length (now dst) ⌝ }
-    ensures { λ _. ⌜ now (dst .exit) ≡ over (now (src .entry)) (now (dst .entry)) ⌝ }
+pub(crate) fn copy_dates(dates: &[u32], dst: &mut [u32])
+    requires { ⌜ length (now dates) ≤ length (now dst) ⌝ }
+    ensures { λ _. ⌜ now (dst .exit) ≡ over (now (dates .entry)) (now (dst .entry)) ⌝ }
 {
     let mut i = 0;
-    while i < src.len() {
-        dst[i] = src[i];
+    while i < dates.len() {
+        dst[i] = dates[i];
         i += 1;
     }
 }
 
-pub(crate) fn copy_flags(src: &[u8], dst: &mut [u8])
-    requires { ⌜ length (now src) ≤ length (now dst) ⌝ }
-    ensures { λ _. ⌜ now (dst .exit) ≡ over (now (src .entry)) (now (dst .entry)) ⌝ }
+pub(crate) fn copy_flags(flags: &[u8], dst: &mut [u8])
+    requires { ⌜ length (now flags) ≤ length (now dst) ⌝ }
+    ensures { λ _. ⌜ now (dst .exit) ≡ over (now (flags .entry)) (now (dst .entry)) ⌝ }
 {
     let mut i = 0;
-    while i < src.len() {
-        dst[i] = src[i];
+    while i < flags.len() {
+        dst[i] = flags[i];
         i += 1;
     }
 }

@@ -7,14 +7,12 @@ ghost use Rattle.calendar.specs.Open.{closedOk};
 ghost use Rattle.steps.specs.Finish.{mergeEnd, mergeFront};
 ghost use Rattle.steps.specs.Fewer.{fewAdjustments, keptFinish};
 ghost use Rattle.steps.specs.Build.{Written};
-ghost use Rattle.finish.specs.Finishing.{refusedBuilt, acceptedBuilt, pair, scheduled, merges, Lent, lentRefusal, completed};
+ghost use Rattle.finish.specs.Finishing.{acceptedBuilt, pair, scheduled, merges, Lent, lentRefusal, completed};
 use crate::merges::Start;
 use crate::moving::Done;
-use period::Period;
-use period::Unit;
 use steps::Built;
 use steps::Request;
-use steps::Rule;
+use steps::refused;
 use steps::rules;
 
 // Dates moved in place.
@@ -25,23 +23,6 @@ mod adjusting;
 mod merges;
 // Copying out.
 mod copies;
-
-// What a refusal answers.
-
-pub fn refused(n: u8) -> Built
-    ensures { λ r. ⌜ r ≡ refusedBuilt n ⌝ }
-{
-    Built {
-        number: n,
-        count: 0,
-        tries: 0,
-        rule: Rule::Zero,
-        tenor: Period {
-            length: 0,
-            unit: Unit::Days,
-        },
-    }
-}
 
 fn accepted(q: Request, count: u32, tries: u32) -> Built
     ensures { λ r. ⌜ r ≡ acceptedBuilt q count tries ⌝ }

@@ -3,7 +3,7 @@ ghost use mathlib.Core.Path.{_≡_};
 ghost use Prim.Native.Nat.{_+_};
 ghost use lib.ListN.{length};
 ghost use Rattle.finish.specs.Ends.{EndMerged, FrontMerged};
-use working::lists::same_flag;
+use steps::flags::same_flag;
 
 // Where the list starts after the merge at the front.
 pub(crate) enum Start {

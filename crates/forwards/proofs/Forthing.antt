@@ -26,14 +26,14 @@ use Rattle.working.specs.declared.adds.Added.{Added}
 use Rattle.working.specs.declared.adds.Added.the-variants as added-is
 use Rattle.opening.specs.declared.Opening.{Opening}
 use Rattle.opening.specs.declared.Opening.the-variants as opening-is
-use Rattle.backwards.specs.declared.Generated.{Generated}
-use Rattle.backwards.specs.declared.Generated.the-variants as generated-is
+use Rattle.working.specs.declared.Generated.{Generated}
+use Rattle.working.specs.declared.Generated.the-variants as generated-is
 use Rattle.working.specs.Part.{Part, held, lastPut, filled, Placed, Filling}
 use Rattle.working.specs.Adding.{Adding}
 use Rattle.opening.specs.Opening.{openedBy, Open, Opens}
-use Rattle.backwards.specs.Making.{generated, Lies, Generates}
+use Rattle.working.specs.Making.{generated, Lies, Generates}
 use Rattle.forwards.specs.Opened.{opening}
-use Rattle.backwards.specs.Chains.{added-given, added-refused}
+use Rattle.working.specs.After.{added-given, added-refused}
 use Rattle.working.specs.Chains.{stopped, filled-part, filled-given}
 use Rattle.working.specs.Held.{newest-alone}
 

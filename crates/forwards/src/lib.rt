@@ -1,12 +1,12 @@
 // Forward builds, and those on twentieths and third Wednesdays: from the effective date on to termination.
 ghost use Rattle.steps.specs.Generate.{forwardFrom, forward};
 ghost use Rattle.working.specs.Part.{Part, Begun};
-ghost use Rattle.backwards.specs.Making.{Checked, Generates};
+ghost use Rattle.working.specs.Making.{Checked, Generates};
 ghost use Rattle.forwards.specs.Opened.{opening};
-use backwards::Generated;
 use opening::Opening;
 use steps::Request;
 use steps::seeds;
+use working::Generated;
 use working::candidates;
 use working::walks;
 use working::walks::Walked;
@@ -29,7 +29,7 @@ fn forward_from(
     let tenor = q.tenor;
     let convention = q.convention;
     let pace = candidates::pace_of(tenor);
-    let exit = backwards::anchor_or(q.penultimate.day, q.termination.day);
+    let exit = seeds::anchor_or(q.penultimate.day, q.termination.day);
     let seed = seeds::seed_of(q.monthend, day);
     let settled = false;
     let walked = walks::walk(

@@ -6,6 +6,6 @@ fn main() {
     let mut input = io::large_buffer();
     let mut text = io::large_buffer();
     let got = io::read_full(STDIN_FILENO, &mut input);
-    let count = desk::answer(&input[..got], &mut text);
+    let count = reply::answer(&input[..got], &mut text);
     io::write_all(STDOUT_FILENO, &text[..count]);
 }

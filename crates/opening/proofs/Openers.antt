@@ -15,7 +15,7 @@ use Rattle.period.specs.declared.Unit.the-variants.{Months}
 use Rattle.date.specs.declared.Date.{Date}
 use Rattle.date.specs.declared.Dated.{Dated}
 use Rattle.date.specs.declared.Dated.the-variants as dated-is
-use Rattle.date.specs.Date.{dated, shifted, shiftMonths}
+use Rattle.date.specs.Date.{SPAN-LAST, dated, shifted, shiftMonths}
 use Rattle.date.specs.Made.{given-day, refused-day}
 use Rattle.calendar.specs.Adjust.{adjusted, advanced}
 use Rattle.steps.specs.declared.Rule.{Rule}
@@ -123,7 +123,7 @@ module _ (rule : Rule) (effective : ℕ) (next : Dated) (s : dated next ≡ next
   coming-stop k e = then-refused _ k _ (refused-day next k _ s e)
 
   module _ (d : Date) (e : next ≡ dated-is.Day d) where
-    pub coming-few : d .day ≤ 876216
+    pub coming-few : d .day ≤ SPAN-LAST
     coming-few = next-span rule effective (d .day) (given-day next d _ s e) .high
 
     module _ (b : Bool) (p : b ≡ isNear rule effective (d .day)) where

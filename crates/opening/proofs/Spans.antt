@@ -6,15 +6,15 @@ use Prim.Native.Nat.{ℕ, _≤_}
 use lib.Dec.{ltb}
 use Rattle.refusal.specs.Answer.{given, then}
 use Rattle.refusal.specs.Laws.{then-stepped}
-use Rattle.date.specs.Date.{makeOf, inMonth, shiftMonths}
+use Rattle.date.specs.Date.{SPAN-FIRST, SPAN-LAST, makeOf, inMonth, shiftMonths}
 use Rattle.date.specs.Made.{made, made-within}
 use Rattle.steps.specs.declared.Rule.{Rule}
 use Rattle.steps.specs.Rules.{inImmMonths}
 use Rattle.steps.specs.Twentieths.{twentiethOf, movedIf, toImmMonth, nextTwentieth}
 
 pub record InSpan (n : ℕ) : Type 0 where
-  pub low : 657072 ≤ n
-  pub high : n ≤ 876216
+  pub low : SPAN-FIRST ≤ n
+  pub high : n ≤ SPAN-LAST
 
 one : (a b : ℕ) → given a ≡ given b → a ≡ b
 one a b h = cc

@@ -15,6 +15,7 @@ use date::Dated;
 use period::sign;
 use steps::Request;
 use steps::Rule;
+use steps::flags;
 use steps::rules;
 use steps::twentieths;
 use working::Filled;
@@ -126,7 +127,7 @@ fn put_first(
     let first = q.first.day;
     match next {
         Dated::Refused(k) => Opening::Refused(k),
-        Dated::Day(d) => put_seed(n, room, first, lists::same_flag(d.day, first), work, marks),
+        Dated::Day(d) => put_seed(n, room, first, flags::same_flag(d.day, first), work, marks),
     }
 }
 

@@ -7,10 +7,10 @@ use borrow.Author.Needs.{needs}
 use borrow.Author.Tests.{ltb-true, lt-ltb, not-true, not-false}
 use Rattle.calendar.specs.declared.Convention.{Convention}
 use Rattle.calendar.specs.declared.Convention.the-variants.{Unadjusted, Following, ModifiedFollowing, Preceding, ModifiedPreceding}
-use Rattle.steps.specs.declared.Rule.{Rule}
-use Rattle.steps.specs.declared.Rule.the-variants.{Zero, Backward, Forward, Twentieth, TwentiethIMM, ThirdWednesday, ThirdWednesdayInclusive, OldCDS, CDS, CDS2015}
+use Rattle.steps.specs.declared.Rule.the-variants.{Backward}
 use Rattle.steps.specs.declared.Request.{Request}
-use Rattle.steps.specs.Rules.{isBackward}
+use Rattle.steps.specs.Rules.{ruleNumber, oneOf, isBackward}
+use Rattle.steps.specs.RuleLaws.{only}
 use Rattle.plain.specs.Demand.{Plain, PlainIf}
 use Rattle.plain.specs.Asked.{isUnadjusted, isPositive}
 
@@ -22,26 +22,13 @@ unadjusted-only ModifiedFollowing e = absurd (false≢true e)
 unadjusted-only Preceding e = absurd (false≢true e)
 unadjusted-only ModifiedPreceding e = absurd (false≢true e)
 
-backward-only : (r : Rule) → isBackward r ≡ true → r ≡ Backward
-unfolding isBackward
-backward-only Zero e = absurd (false≢true e)
-backward-only Backward e = refl
-backward-only Forward e = absurd (false≢true e)
-backward-only Twentieth e = absurd (false≢true e)
-backward-only TwentiethIMM e = absurd (false≢true e)
-backward-only ThirdWednesday e = absurd (false≢true e)
-backward-only ThirdWednesdayInclusive e = absurd (false≢true e)
-backward-only OldCDS e = absurd (false≢true e)
-backward-only CDS e = absurd (false≢true e)
-backward-only CDS2015 e = absurd (false≢true e)
-
 -- ---- the tests of `is_plain`
 never : {q : Request} → (Plain q → ⊥) → PlainIf false q
 never n = record { only = λ e. absurd (false≢true e); always = λ p. absurd (n p) }
 
 module _ (q : Request) where
   backward-test : Plain q → isBackward (q .rule) ≡ true
-  unfolding isBackward
+  unfolding isBackward oneOf ruleNumber
   backward-test p = rw (p .backward)
 
   convention-test : Plain q → isUnadjusted (q .convention) ≡ true
@@ -76,7 +63,8 @@ module _ (q : Request) where
 
   -- and that of the order where all others hold
   rule-told : (b : Bool) → b ≡ isBackward (q .rule) → not b ≡ false → q .rule ≡ Backward
-  rule-told b h e = backward-only (q .rule) (sym h ∙ not-false b e)
+  unfolding isBackward
+  rule-told b h e = only (q .rule) Backward (sym h ∙ not-false b e)
 
   pub by-order : (b l c t : Bool) → b ≡ isBackward (q .rule) → not b ≡ false → l ≡ isPositive (q .tenor .length) → not l ≡ false
       → c ≡ isUnadjusted (q .convention) → not c ≡ false → t ≡ isUnadjusted (q .terminal) → not t ≡ false

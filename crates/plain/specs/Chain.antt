@@ -1,8 +1,8 @@
 -- A walk whose candidates are kept one after the other up to the j-th, and whose next ends it.
 -- Assumes nothing.
-use Prim.Native.Nat.{ℕ, zero, suc, _+_, _-_, _≤_, _<_, zero-le}
+use Prim.Native.Nat.{ℕ, zero, suc, _+_, _-_, _≤_, _<_}
 use mathlib.Core.Path.{_≡_, refl, ap, _∙_}
-use mathlib.Core.Logic.{_⊎_, inl, inr, ⊎-elim}
+use mathlib.Core.Logic.{inl, inr, ⊎-elim}
 use mathlib.Core.List.{List, [], _∷_}
 use native.Mathlib.Nat.{not-suc-le-zero, eq-or-lt-of-le}
 use native.Mathlib.Omega.{arith}
@@ -12,11 +12,6 @@ use Rattle.refusal.specs.Answer.{Answer, given, refused, need, then, ROOM}
 use Rattle.steps.specs.Candidates.{Turn, past, keep}
 use Rattle.steps.specs.Generate.{Lists, onto, newest, hasRoom, put, onTurn, walk}
 use Rattle.plain.specs.Listed.{_∈_, Ascending}
-
-pub le-or-lt : (a b : ℕ) → (a ≤ b) ⊎ (b < a)
-le-or-lt zero b = inl zero-le
-le-or-lt (suc a) zero = inr (omega arith)
-le-or-lt (suc a) (suc b) = ⊎-elim (λ (h : a ≤ b). inl (omega arith)) (λ (h : b < a). inr (omega arith)) (le-or-lt a b)
 
 abbrev pub ones : ℕ → List ℕ
 ones j = replicate j 1

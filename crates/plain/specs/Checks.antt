@@ -11,12 +11,11 @@ use borrow.Author.Tests.{eq-eqb}
 use Rattle.refusal.specs.Laws.{both}
 use Rattle.period.specs.Signed.{isNegative}
 use Rattle.date.specs.Date.{inBook}
+use Rattle.steps.specs.declared.Rule.{Rule}
 use Rattle.steps.specs.declared.Request.{Request}
-use Rattle.steps.specs.Rules.{ruleInForce}
-use Rattle.steps.specs.Table.{Row, row, numberOr, firstRow, isGiven, anchorOk, datesOk, kindOf, outOfRange, notImm, wrongRule, monthendAllowed, inputRows}
+use Rattle.steps.specs.Table.{Row, row, numberOr, firstRow, isGiven, anchorOk, datesOk, outOfRange, notImm, wrongRule, anchorRows, firstRows, lastRows, rowsUnder, inputRows}
 use Rattle.steps.specs.TableLaws as table
 use Rattle.plain.specs.Demand.{Plain, Passes, ChecksAre}
-use Rattle.plain.specs.Walked.{rule-is}
 
 not-negative : (z : ℤ) → ltZ (pos 0) z ≡ true → isNegative z ≡ false
 not-negative (pos n) h = refl
@@ -53,36 +52,33 @@ module _ (q : Request) (closed : List ℕ) (dates flags : ℕ) (p : Plain q) whe
   unfolding datesOk anchorOk
   dates-row e t = rw (e, t, p .no-first, p .no-penultimate)
 
-  range-row : (anchor : ℕ) (outside : Bool) → anchor ≡ 0 → outOfRange (kindOf (ruleInForce q)) anchor outside ≡ false
-  unfolding kindOf outOfRange isGiven
-  range-row anchor outside e = rw (rule-is q p, e)
+  range-row : (rule : Rule) (anchor : ℕ) (outside : Bool) → anchor ≡ 0 → outOfRange rule anchor outside ≡ false
+  unfolding outOfRange isGiven
+  range-row rule anchor outside e = rw e
 
-  imm-row : (anchor : ℕ) → notImm (kindOf (ruleInForce q)) anchor ≡ false
-  unfolding kindOf notImm
-  imm-row anchor = rw (rule-is q p)
+  imm-row : (rule : Rule) (anchor : ℕ) → anchor ≡ 0 → notImm rule anchor ≡ false
+  unfolding notImm isGiven
+  imm-row rule anchor e = rw e
 
-  rule-row : (anchor : ℕ) → wrongRule (kindOf (ruleInForce q)) anchor ≡ false
-  unfolding kindOf wrongRule
-  rule-row anchor = rw (rule-is q p)
-
-  month-end-row : (q .monthend && not (monthendAllowed (ruleInForce q))) ≡ false
-  month-end-row = rw (p .no-month-end)
+  rule-row : (rule : Rule) (anchor : ℕ) → anchor ≡ 0 → wrongRule rule anchor ≡ false
+  unfolding wrongRule isGiven
+  rule-row rule anchor e = rw e
 
   passes : Passes q closed dates flags → firstRow (inputRows q closed dates flags) ≡ 0
-  unfolding inputRows
+  unfolding inputRows rowsUnder firstRows lastRows anchorRows
   passes c =
       next _ _ _ (even-row (c .even))
       (next _ _ _ (dates-row (c .effective-in-book) (c .termination-in-book))
       (next _ _ _ (rw (c .calendar-sound))
       (next _ _ _ (not-negative (q .tenor .length) (p .positive))
       (next _ _ _ (rw (c .tenor-short))
-      (next _ _ _ (range-row (q .first .day) _ (p .no-first))
-      (next _ _ _ (imm-row (q .first .day))
-      (next _ _ _ (rule-row (q .first .day))
-      (next _ _ _ (range-row (q .penultimate .day) _ (p .no-penultimate))
-      (next _ _ _ (imm-row (q .penultimate .day))
-      (next _ _ _ (rule-row (q .penultimate .day))
-      (next _ _ _ month-end-row no-rows)))))))))))
+      (next _ _ _ (range-row _ (q .first .day) _ (p .no-first))
+      (next _ _ _ (imm-row _ (q .first .day) (p .no-first))
+      (next _ _ _ (rule-row _ (q .first .day) (p .no-first))
+      (next _ _ _ (range-row _ (q .penultimate .day) _ (p .no-penultimate))
+      (next _ _ _ (imm-row _ (q .penultimate .day) (p .no-penultimate))
+      (next _ _ _ (rule-row _ (q .penultimate .day) (p .no-penultimate))
+      (next _ _ _ (rw (p .no-month-end)) no-rows)))))))))))
 
 pub checks-are : ChecksAre
 checks-are q closed dates flags p = (passed q closed dates flags p, passes q closed dates flags p)

@@ -6,8 +6,8 @@ use mathlib.Core.Logic.{⊎-elim}
 use native.Mathlib.Nat.{eq-or-lt-of-le, div-add-mod', mod-lt, suc-mul, zero-mul, mul-le-mul-right, le-div-iff-mul-le}
 use native.Mathlib.Omega.{arith}
 use Rattle.refusal.specs.Answer.{Answer, given}
+use Rattle.outcomes.specs.Span.{le-or-lt}
 use Rattle.plain.specs.Demand.{MostOf}
-use Rattle.plain.specs.Chain.{le-or-lt}
 use Rattle.plain.specs.Falling.{dayOr, Falls}
 
 -- what is asked of a count: none is no step, more are an earlier date, one tenor below the effective date there still are dates, and the book has

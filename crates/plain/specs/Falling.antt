@@ -11,15 +11,17 @@ use lib.Dec.{ltb}
 use borrow.Author.Tests.{lt-ltb, le-ltb}
 use lib.ListN.{length, take, replicate}
 use Rattle.refusal.specs.Answer.{Answer, given, refused, then, ROOM}
+use Rattle.date.specs.Date.{SPAN-FIRST, SPAN-LAST}
 use Rattle.calendar.specs.declared.Convention.the-variants.{Unadjusted}
 use Rattle.steps.specs.declared.Pace.{Pace}
 use Rattle.steps.specs.declared.Seed.{Seed}
 use Rattle.steps.specs.Candidates.{Turn, past, keep, candidate, turnOf}
 use Rattle.steps.specs.Generate.{Walk, Made, nothing, newest, onto, put, putNew, madeBack, lastTry, walk}
+use Rattle.outcomes.specs.Span.{le-or-lt, InSpan}
 use Rattle.plain.specs.Listed.{_∈_, Ascending}
 use Rattle.plain.specs.Listed as listed
-use Rattle.plain.specs.Chain.{le-or-lt, ones, chain, chain-length, chain-first, in-chain, from-chain, chain-up, linked, put-fits, put-full, walk-fits, walk-full}
-use Rattle.plain.specs.Turns.{InSpan, turn-keeps, turn-ends, new-same, new-put}
+use Rattle.plain.specs.Chain.{ones, chain, chain-length, chain-first, in-chain, from-chain, chain-up, linked, put-fits, put-full, walk-fits, walk-full}
+use Rattle.plain.specs.Turns.{turn-keeps, turn-ends, new-same, new-put}
 
 -- the date of an answer
 abbrev pub dayOr : Answer ℕ → ℕ
@@ -81,7 +83,7 @@ pub record Falls (cand : ℕ → Answer ℕ) (e t j : ℕ) : Type 0 where
 
 module _
     (mask : ℕ) (closed : List ℕ) (pace : Pace) (seed : Seed) (room e t j : ℕ) (f : Falls (candidate true pace seed) e t j)
-    (order : e < t) (few : j < lastTry) (from : 657072 ≤ e) (to : t ≤ 876216)
+    (order : e < t) (few : j < lastTry) (from : SPAN-FIRST ≤ e) (to : t ≤ SPAN-LAST)
   where
     abbrev cand : ℕ → Answer ℕ
     cand k = candidate true pace seed k

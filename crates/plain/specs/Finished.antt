@@ -15,11 +15,11 @@ use Rattle.calendar.specs.declared.Convention.the-variants.{Unadjusted}
 use Rattle.steps.specs.declared.Rule.the-variants.{Backward}
 use Rattle.steps.specs.declared.Move.the-variants.{Adjust}
 use Rattle.steps.specs.declared.Request.{Request}
-use Rattle.steps.specs.Rules.{ruleInForce, isOldCDS, isCredit}
-use Rattle.steps.specs.Finish.{moved, each, between, onFirst, onLast, onMiddle, wednesdays, unless, firstMove, lastMove, middleMove, seedAtEnd, adjustments, meetAtEnd, mergeEndIf, mergeEnd, meetAtFront, mergeFrontIf, mergeFront, finish}
+use Rattle.steps.specs.Rules.{ruleNumber, oneOf, ruleInForce, isOldCDS, isCredit}
+use Rattle.steps.specs.Finish.{moved, each, between, onFirst, onLast, onMiddle, wednesdaysBy, wednesdays, unless, firstMove, lastMove, middleMove, seedAtEnd, adjustments, meetAtEnd, mergeEndIf, mergeEnd, meetAtFront, mergeFrontIf, mergeFront, finish}
+use Rattle.outcomes.specs.Span.{le-or-lt, InSpan}
 use Rattle.plain.specs.Listed.{_∈_, Ascending, ascending-at}
-use Rattle.plain.specs.Chain.{le-or-lt}
-use Rattle.plain.specs.Turns.{InSpan, stays}
+use Rattle.plain.specs.Turns.{stays}
 
 -- ---- a list in parts
 in-take : (k d : ℕ) (ds : List ℕ) → d ∈ take k ds → d ∈ ds
@@ -114,10 +114,10 @@ module _
     still d h = stays (q .mask) closed d (span d h)
 
     adjusted-same : adjustments q closed seed ds ≡ given ds
-    unfolding adjustments firstMove lastMove middleMove seedAtEnd unless isOldCDS isCredit then
+    unfolding adjustments firstMove lastMove middleMove seedAtEnd unless isOldCDS isCredit oneOf ruleNumber then
     adjusted-same =
         rw (rule, convention, terminal, monthend, first-same (moved (q .mask) closed (Adjust Unadjusted)) ds still, last-same (moved (q .mask) closed (Adjust Unadjusted)) ds still, middle-same (moved (q .mask) closed (Adjust Unadjusted)) ds still)
 
     pub finished-same : finish q closed seed ds fs ≡ given (record { dates = ds; flags = fs })
-    unfolding finish wednesdays then
+    unfolding finish wednesdays wednesdaysBy oneOf ruleNumber then
     finished-same = rw (rule, adjusted-same) (merged-same ds fs ascends)

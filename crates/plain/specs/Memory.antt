@@ -7,7 +7,7 @@ use lib.ListN.{length, drop}
 use Rattle.refusal.specs.Answer.{Answer, given, refused, ROOM}
 use Rattle.steps.specs.declared.Request.{Request}
 use Rattle.steps.specs.declared.Built.{Built}
-use Rattle.steps.specs.Rules.{tenorUnder, tenorInForce}
+use Rattle.steps.specs.Rules.{ruleNumber, oneOf, isZero, tenorUnder, tenorInForce}
 use Rattle.steps.specs.Build.{Schedule, Written, answered, over, datesAfter, flagsAfter}
 use Rattle.plain.specs.Demand.{Plain, Accepted, WrittenOut, LeftAlone, Demand3InMemory}
 use Rattle.plain.specs.Walked.{rule-is}
@@ -27,7 +27,7 @@ module _ (q : Request) (p : Plain q) (o : Answer Schedule) (r : Built) (dates fl
       }
 
   tenor-is : tenorInForce q ≡ q .tenor
-  unfolding tenorInForce tenorUnder
+  unfolding tenorInForce tenorUnder isZero oneOf ruleNumber
   tenor-is = rw (rule-is q p)
 
   written : (ds : List ℕ) (m : ℕ) (s : Schedule) → o ≡ given s → Accepted q ds m s → WrittenOut q ds m r dates flags dates′ flags′

@@ -17,11 +17,11 @@ use Rattle.date.specs.Date.{inBook, monthIndex, shifted}
 use Rattle.date.specs.Moves.{book-from}
 use Rattle.imm.specs.Order.{month-le}
 use Rattle.steps.specs.declared.Request.{Request}
+use Rattle.outcomes.specs.Span.{le-or-lt, since}
 use Rattle.plain.specs.Demand.{Plain, Passes, countedIn, tenorCount, taken, MostOf, Most}
-use Rattle.plain.specs.Chain.{le-or-lt}
 use Rattle.plain.specs.Falling.{dayOr}
 use Rattle.plain.specs.Count.{brink, passes}
-use Rattle.plain.specs.Units.{since, span-of, days-are, days-line, months-at, months-are, months-zero, months-line}
+use Rattle.plain.specs.Units.{span-of, days-are, days-line, months-at, months-are, months-zero, months-line}
 use Rattle.plain.specs.Walked.{some-units, line}
 
 -- ---- m can be taken, and one more passes: those two say that m is the most

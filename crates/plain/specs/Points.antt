@@ -11,12 +11,12 @@ use Rattle.date.specs.Date.{inBook, withinSpan, makeOf, lastOfMonth, monthIndex
 use Rattle.calendar.specs.Open.{weeklyClosed, member, isOpen, ascending, closedOk, calendarOk}
 use Rattle.calendar.specs.Adjust.{inSpan, takenOr, firstOpen, found, sameMonth, unlessLeft, modified, byConvention, adjusted, lastOpen, atMonthEnd, towards, openSteps, endAsked, landed, addMonths, addWeeks, byUnit, advanced}
 use Rattle.calendar.specs.Calendar.{longest, tenorOk}
-use Rattle.steps.specs.Rules.{isZero, isBackward, onTwentieths, inImmMonths, isCredit, isOldCDS, ruleUnder, isNone, ruleInForce, tenorUnder, tenorInForce, paceBy, paceOf}
-use Rattle.steps.specs.Table.{numberOr, firstRow, isGiven, anchorOk, datesOk, kindOf, outOfRange, notImm, wrongRule, firstOutside, lastOutside, monthendAllowed, inputRows}
+use Rattle.steps.specs.Rules.{ruleNumber, oneOf, isZero, isBackward, onTwentieths, inImmMonths, isCredit, isOldCDS, ruleUnder, isNone, ruleInForce, tenorUnder, tenorInForce, paceBy, paceOf}
+use Rattle.steps.specs.Table.{numberOr, firstRow, isGiven, anchorOk, datesOk, byRange, byImm, outOfRange, notImm, wrongRule, firstOutside, lastOutside, monthendAllowed, anchorRows, firstRows, lastRows, rowsUnder, inputRows}
 use Rattle.steps.specs.Twentieths.{twentiethOf, movedIf, skipOf, toImmMonth, nextTwentieth, previousTwentieth}
 use Rattle.steps.specs.Candidates.{lastDay, seedOf, candidateBy, candidate, isPast, unlessSame, unlessPast, turnOf}
 use Rattle.steps.specs.Generate.{hasRoom, put, putUnless, putNew, onTurn, lastTry, walk, candidates, anchorOr, putAnchor, zeroDates, putPenultimate, begun, ended, backwardEnd, backwardFrom, backward, putEarlier, creditOpening, openingBy, opening, tenorOn, putSeed, putFirst, farEnough, isNear, comingTwentieth, putComing, putTwentieth, second, closingDay, putClosing, closing, opened, shut, forwardEnd, forwardFrom, forward, generateBy, generate}
-use Rattle.steps.specs.Finish.{thirdWednesday, moved, each, between, onFirst, onLast, onMiddle, wednesdays, unless, firstMove, lastMove, monthEndMove, middleMove, seedAsked, seedAtEnd, adjustments, meetAtEnd, mergeEndIf, mergeEnd, meetAtFront, mergeFrontIf, mergeFront, finish}
+use Rattle.steps.specs.Finish.{thirdWednesday, moved, each, between, onFirst, onLast, onMiddle, wednesdaysBy, wednesdays, unless, firstMove, lastMove, monthEndMove, middleMove, seedAsked, seedAtEnd, adjustments, meetAtEnd, mergeEndIf, mergeEnd, meetAtFront, mergeFrontIf, mergeFront, finish}
 use Rattle.steps.specs.Build.{Schedule, stepsOf, admitted, buildOf, answered}
 use lib.IntN.{pos}
 use Rattle.imm.specs.Imm.{isImm, inCycle, mainMonth}
@@ -120,10 +120,10 @@ points : _≡_ {A = List (Answer Schedule)}
     ∷ given (record { dates = on 2 3 ∷ on 3 2 ∷ []; flags = 1 ∷ []; tries = 2 })
     ∷ given (record { dates = on 3 3 ∷ []; flags = []; tries = 1 })
     ∷ [])
-unfolding isZero isBackward asked builds need then leap rowOf monthLength gone sumTo dayNumber guess yearsGone monthIn dayIn placeOf fieldsAt weekdayOf daysUntil inBook withinSpan makeOf lastOfMonth monthIndex inMonth step shiftDays shiftMonths shifted nthWeekdayOf weeklyClosed member isOpen ascending closedOk calendarOk inSpan takenOr firstOpen found sameMonth unlessLeft modified byConvention adjusted lastOpen atMonthEnd towards openSteps endAsked landed addMonths addWeeks byUnit advanced longest tenorOk mainMonth inCycle isImm onTwentieths inImmMonths isCredit isOldCDS ruleUnder isNone ruleInForce tenorUnder tenorInForce paceBy paceOf numberOr firstRow isGiven anchorOk datesOk kindOf outOfRange notImm wrongRule firstOutside lastOutside monthendAllowed inputRows twentiethOf movedIf skipOf toImmMonth nextTwentieth previousTwentieth lastDay seedOf candidateBy candidate isPast unlessSame unlessPast turnOf hasRoom put putUnless putNew onTurn lastTry walk candidates anchorOr putAnchor zeroDates putPenultimate begun ended backwardEnd backwardFrom backward putEarlier creditOpening openingBy opening tenorOn putSeed putFirst farEnough isNear comingTwentieth putComing putTwentieth second closingDay putClosing closing opened shut forwardEnd forwardFrom forward generateBy generate thirdWednesday moved each between onFirst onLast onMiddle wednesdays unless firstMove lastMove monthEndMove middleMove seedAsked seedAtEnd adjustments meetAtEnd mergeEndIf mergeEnd meetAtFront mergeFrontIf mergeFront finish stepsOf admitted buildOf
+unfolding ruleNumber oneOf isZero isBackward asked builds need then leap rowOf monthLength gone sumTo dayNumber guess yearsGone monthIn dayIn placeOf fieldsAt weekdayOf daysUntil inBook withinSpan makeOf lastOfMonth monthIndex inMonth step shiftDays shiftMonths shifted nthWeekdayOf weeklyClosed member isOpen ascending closedOk calendarOk inSpan takenOr firstOpen found sameMonth unlessLeft modified byConvention adjusted lastOpen atMonthEnd towards openSteps endAsked landed addMonths addWeeks byUnit advanced longest tenorOk mainMonth inCycle isImm onTwentieths inImmMonths isCredit isOldCDS ruleUnder isNone ruleInForce tenorUnder tenorInForce paceBy paceOf numberOr firstRow isGiven anchorOk datesOk byRange byImm outOfRange notImm wrongRule firstOutside lastOutside monthendAllowed anchorRows firstRows lastRows rowsUnder inputRows twentiethOf movedIf skipOf toImmMonth nextTwentieth previousTwentieth lastDay seedOf candidateBy candidate isPast unlessSame unlessPast turnOf hasRoom put putUnless putNew onTurn lastTry walk candidates anchorOr putAnchor zeroDates putPenultimate begun ended backwardEnd backwardFrom backward putEarlier creditOpening openingBy opening tenorOn putSeed putFirst farEnough isNear comingTwentieth putComing putTwentieth second closingDay putClosing closing opened shut forwardEnd forwardFrom forward generateBy generate thirdWednesday moved each between onFirst onLast onMiddle wednesdaysBy wednesdays unless firstMove lastMove monthEndMove middleMove seedAsked seedAtEnd adjustments meetAtEnd mergeEndIf mergeEnd meetAtFront mergeFrontIf mergeFront finish stepsOf admitted buildOf
 points = refl
 
 -- length 0 forces Zero, and the tenor in force is 0 years
 in-force : answered (asked Backward Unadjusted Unadjusted false (on 1 15) (on 3 20) 0 Months 0 0 0) (builds [] (asked Backward Unadjusted Unadjusted false (on 1 15) (on 3 20) 0 Months 0 0 0)) ≡ record { number = 0; count = 2; tries = 0; rule = Zero; tenor = record { length = pos 0; unit = Years } }
-unfolding isZero isBackward asked builds need then leap rowOf monthLength gone sumTo dayNumber guess yearsGone monthIn dayIn placeOf fieldsAt weekdayOf daysUntil inBook withinSpan makeOf lastOfMonth monthIndex inMonth step shiftDays shiftMonths shifted nthWeekdayOf weeklyClosed member isOpen ascending closedOk calendarOk inSpan takenOr firstOpen found sameMonth unlessLeft modified byConvention adjusted lastOpen atMonthEnd towards openSteps endAsked landed addMonths addWeeks byUnit advanced longest tenorOk mainMonth inCycle isImm onTwentieths inImmMonths isCredit isOldCDS ruleUnder isNone ruleInForce tenorUnder tenorInForce paceBy paceOf numberOr firstRow isGiven anchorOk datesOk kindOf outOfRange notImm wrongRule firstOutside lastOutside monthendAllowed inputRows twentiethOf movedIf skipOf toImmMonth nextTwentieth previousTwentieth lastDay seedOf candidateBy candidate isPast unlessSame unlessPast turnOf hasRoom put putUnless putNew onTurn lastTry walk candidates anchorOr putAnchor zeroDates putPenultimate begun ended backwardEnd backwardFrom backward putEarlier creditOpening openingBy opening tenorOn putSeed putFirst farEnough isNear comingTwentieth putComing putTwentieth second closingDay putClosing closing opened shut forwardEnd forwardFrom forward generateBy generate thirdWednesday moved each between onFirst onLast onMiddle wednesdays unless firstMove lastMove monthEndMove middleMove seedAsked seedAtEnd adjustments meetAtEnd mergeEndIf mergeEnd meetAtFront mergeFrontIf mergeFront finish stepsOf admitted buildOf answered
+unfolding ruleNumber oneOf isZero isBackward asked builds need then leap rowOf monthLength gone sumTo dayNumber guess yearsGone monthIn dayIn placeOf fieldsAt weekdayOf daysUntil inBook withinSpan makeOf lastOfMonth monthIndex inMonth step shiftDays shiftMonths shifted nthWeekdayOf weeklyClosed member isOpen ascending closedOk calendarOk inSpan takenOr firstOpen found sameMonth unlessLeft modified byConvention adjusted lastOpen atMonthEnd towards openSteps endAsked landed addMonths addWeeks byUnit advanced longest tenorOk mainMonth inCycle isImm onTwentieths inImmMonths isCredit isOldCDS ruleUnder isNone ruleInForce tenorUnder tenorInForce paceBy paceOf numberOr firstRow isGiven anchorOk datesOk byRange byImm outOfRange notImm wrongRule firstOutside lastOutside monthendAllowed anchorRows firstRows lastRows rowsUnder inputRows twentiethOf movedIf skipOf toImmMonth nextTwentieth previousTwentieth lastDay seedOf candidateBy candidate isPast unlessSame unlessPast turnOf hasRoom put putUnless putNew onTurn lastTry walk candidates anchorOr putAnchor zeroDates putPenultimate begun ended backwardEnd backwardFrom backward putEarlier creditOpening openingBy opening tenorOn putSeed putFirst farEnough isNear comingTwentieth putComing putTwentieth second closingDay putClosing closing opened shut forwardEnd forwardFrom forward generateBy generate thirdWednesday moved each between onFirst onLast onMiddle wednesdaysBy wednesdays unless firstMove lastMove monthEndMove middleMove seedAsked seedAtEnd adjustments meetAtEnd mergeEndIf mergeEnd meetAtFront mergeFrontIf mergeFront finish stepsOf admitted buildOf answered
 in-force = refl

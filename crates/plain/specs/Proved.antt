@@ -13,10 +13,9 @@ use Rattle.steps.specs.declared.Request.{Request}
 use Rattle.steps.specs.Generate.{generate}
 use Rattle.steps.specs.Finish.{finish}
 use Rattle.steps.specs.Build.{Schedule, stepsOf, admitted, buildOf}
+use Rattle.outcomes.specs.Span.{le-or-lt, InSpan}
 use Rattle.plain.specs.Listed.{one-list}
 use Rattle.plain.specs.Demand.{Plain, Passes, tenorLength, tenorsBefore, LiesSo, OwedDate, FirstFlag, regular, irregular, tenorCount, Most, TooLong, Accepted, Kept, Demand3, OwedOnce, MostOnce}
-use Rattle.plain.specs.Chain.{le-or-lt}
-use Rattle.plain.specs.Turns.{InSpan}
 use Rattle.plain.specs.Falling.{Generated}
 use Rattle.plain.specs.Units.{span-of}
 use Rattle.plain.specs.Finished.{finished-same}

@@ -9,9 +9,9 @@ use native.Mathlib.Omega.{arith}
 use lib.ListN.{length, getD, length-replicate}
 use Rattle.refusal.specs.Answer.{given}
 use Rattle.steps.specs.declared.Request.{Request}
+use Rattle.outcomes.specs.Span.{le-or-lt}
 use Rattle.plain.specs.Listed.{_∈_, Ascending, ascending-at, at-in}
 use Rattle.plain.specs.Demand.{Plain, Passes, tenorsBefore, OwedDate, Owed, Flagged, tenorCount, Most}
-use Rattle.plain.specs.Chain.{le-or-lt}
 use Rattle.plain.specs.Falling.{dayOr, Falls}
 use Rattle.plain.specs.Walked.{most-is, tenors-fall}
 

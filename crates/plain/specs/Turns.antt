@@ -6,21 +6,19 @@ use mathlib.Core.Bool.{true}
 use mathlib.Core.List.{List}
 use borrow.Author.Tests.{lt-ltb, le-ltb, le-leb, eq-eqb, ne-eqb}
 use Rattle.refusal.specs.Answer.{given, need, then}
+use Rattle.date.specs.Date.{SPAN-FIRST, SPAN-LAST}
 use Rattle.calendar.specs.declared.Convention.the-variants.{Unadjusted}
 use Rattle.calendar.specs.Adjust.{inSpan, byConvention, adjusted}
 use Rattle.steps.specs.declared.Pace.{Pace}
 use Rattle.steps.specs.declared.Seed.{Seed}
 use Rattle.steps.specs.Candidates.{past, keep, candidate, isPast, unlessSame, unlessPast, turnOf}
 use Rattle.steps.specs.Generate.{Lists, newest, put, putUnless, putNew}
-
-pub record InSpan (n : ℕ) : Type 0 where
-  pub low : 657072 ≤ n
-  pub high : n ≤ 876216
+use Rattle.outcomes.specs.Span.{InSpan}
 
 module _ (mask : ℕ) (closed : List ℕ) where
   pub stays : (day : ℕ) → InSpan day → adjusted mask closed Unadjusted day ≡ given day
   unfolding adjusted inSpan byConvention need
-  stays day s = rw (le-leb 657072 day (s .low), le-leb day 876216 (s .high))
+  stays day s = rw (le-leb SPAN-FIRST day (s .low), le-leb day SPAN-LAST (s .high))
 
   module _ (pace : Pace) (seed : Seed) (exit front k day : ℕ) (c : candidate true pace seed k ≡ given day) where
     pub turn-keeps : exit ≤ day → InSpan front → InSpan day → (front ≡ day → ⊥) → turnOf mask closed Unadjusted true pace seed exit front k ≡ given (keep day)

@@ -13,7 +13,7 @@ use Rattle.steps.specs.declared.Rule.the-variants.{Backward}
 use Rattle.steps.specs.declared.Request.{Request}
 use Rattle.steps.specs.declared.Pace.{Pace}
 use Rattle.steps.specs.declared.Seed.{Seed}
-use Rattle.steps.specs.Rules.{ruleUnder, isNone, ruleInForce, isZero, isBackward, paceOf}
+use Rattle.steps.specs.Rules.{ruleNumber, oneOf, ruleUnder, isNone, ruleInForce, isZero, isBackward, paceOf}
 use Rattle.steps.specs.Table.{isGiven}
 use Rattle.steps.specs.Candidates.{seedOf, candidate}
 use Rattle.steps.specs.Generate.{Lists, nothing, put, lastTry, candidates, anchorOr, putAnchor, putPenultimate, begun, ended, backwardEnd, backwardFrom, backward, generateBy, generate}
@@ -54,7 +54,7 @@ module _ (q : Request) (p : Plain q) where
   backward-is closed room = rw (begun-is room, p .no-penultimate, p .no-first, p .unadjusted, p .no-month-end)
 
   pub generate-is : (closed : List ℕ) (room : ℕ) → generate q closed room ≡ fromTermination (q .mask) closed pace seed room (q .effective .day) (q .termination .day)
-  unfolding generate generateBy isZero isBackward
+  unfolding generate generateBy isZero isBackward oneOf ruleNumber
   generate-is closed room = rw rule-is (backward-is closed room)
 
   -- ---- the candidates

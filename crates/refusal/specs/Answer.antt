@@ -1,14 +1,13 @@
 -- What a function of document 01 answers: the value that it gives, or the number of a refusal.
 -- Assumes nothing.
 use Prim.Native.Nat.{ℕ}
-use mathlib.Core.Bool.{Bool, true, false, _&&_}
-use lib.Dec.{leb}
+use mathlib.Core.Bool.{Bool, true, false}
 
 pub data Answer (A : Type 0) : Type 0 where
   given : A → Answer A
   refused : ℕ → Answer A
 
--- the rows of document 01's table, by name
+-- ---- the refusals by name; made by tools/refusals.py: numbers
 abbrev pub UNEVEN : ℕ
 UNEVEN = 1
 
@@ -60,6 +59,8 @@ CODE = 16
 abbrev pub REQUEST : ℕ
 REQUEST = 17
 
+-- ---- made so far
+
 -- document 01's number for an answer: 0 is no refusal
 unfoldable pub number : {A : Type 0} → Answer A → ℕ
 number (given a) = 0
@@ -74,7 +75,3 @@ need n false a = refused n
 unfoldable pub then : {A B : Type 0} → Answer A → (A → Answer B) → Answer B
 then (given a) f = f a
 then (refused n) f = refused n
-
--- the numbers of the table's rows
-abbrev pub inTable : ℕ → Bool
-inTable n = leb UNEVEN n && leb n REQUEST

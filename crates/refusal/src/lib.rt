@@ -1,7 +1,8 @@
-// The refusal numbers of document 01, under its names.
+// The refusals of document 01, under its names.
 ghost use mathlib.Core.Path.{_≡_};
-ghost use Rattle.refusal.specs.Answer.{inTable};
+ghost use Rattle.refusal.specs.Refusals.{inTable};
 
+// ---- made by tools/refusals.py: numbers
 pub const UNEVEN: u8 = 1;
 
 pub const BOOK: u8 = 2;
@@ -35,10 +36,44 @@ pub const COLLAPSED: u8 = 15;
 pub const CODE: u8 = 16;
 
 pub const REQUEST: u8 = 17;
+// ---- made so far
+
+// A refusal's number, how many letters its name has, and the name in ASCII with spaces behind it.
+pub struct Row(pub u8, pub usize, pub [u8; 16]);
+
+// ---- made by tools/refusals.py: rows
+pub const ROWS: [Row; 17] = [
+    Row(UNEVEN, 6, *b"UNEVEN          "),
+    Row(BOOK, 4, *b"BOOK            "),
+    Row(CALENDAR, 8, *b"CALENDAR        "),
+    Row(NEGATIVE, 8, *b"NEGATIVE        "),
+    Row(TENOR, 5, *b"TENOR           "),
+    Row(FIRST_DATE, 10, *b"FIRST_DATE      "),
+    Row(FIRST_NOT_IMM, 13, *b"FIRST_NOT_IMM   "),
+    Row(FIRST_WRONG_RULE, 16, *b"FIRST_WRONG_RULE"),
+    Row(LAST_DATE, 9, *b"LAST_DATE       "),
+    Row(LAST_NOT_IMM, 12, *b"LAST_NOT_IMM    "),
+    Row(LAST_WRONG_RULE, 15, *b"LAST_WRONG_RULE "),
+    Row(MONTHEND, 8, *b"MONTHEND        "),
+    Row(CLOSED, 6, *b"CLOSED          "),
+    Row(ROOM, 4, *b"ROOM            "),
+    Row(COLLAPSED, 9, *b"COLLAPSED       "),
+    Row(CODE, 4, *b"CODE            "),
+    Row(REQUEST, 7, *b"REQUEST         "),
+];
+// ---- made so far
 
 // Whether `n` is the number of a row of document 01's table; 0 is no refusal.
 pub fn is_refusal(n: u8) -> bool
     ensures { λ r. ⌜ r ≡ inTable n ⌝ }
 {
-    UNEVEN <= n && n <= REQUEST
+    let mut k = 0;
+    while k < ROWS.len() {
+        let row = ROWS[k];
+        if row.0 == n {
+            return true;
+        }
+        k += 1;
+    }
+    false
 }

@@ -21,6 +21,8 @@ use Rattle.period.specs.declared.Period.{Period}
 use Rattle.date.specs.declared.Date.{Date}
 use Rattle.calendar.specs.declared.Convention.{Convention}
 use Rattle.steps.specs.declared.Rule.{Rule}
+use Rattle.calendar.specs.Adjust.{conventions}
+use Rattle.steps.specs.Rules.{rules}
 use Rattle.request.specs.Format.{pick, two, four, signed16, isDate, isTenor, isBelow, areDates, bodyOk, byteOf, dateOf, unitOf, tenorOf, ruleOf, conventionOf, requestFrom}
 use Rattle.request.specs.Picks.{taken, left}
 use Rattle.request.specs.Places.{twoAt, Pair, bodyAt, Sized, Lies, Kept}
@@ -162,15 +164,15 @@ module _ {bytes places : List ℕ} (k : Kept bytes places) where
   kept-3 = sized-by 3 3 tenor-wide
 
   pub kept-4 : (getD places 4 0 ≡ 0 → ⊥) → Sized bytes (getD places 4 0) 1
-  unfolding bodyOk pick
+  unfolding bodyOk pick rules
   kept-4 = sized-by 4 1 (byte-wide 10)
 
   pub kept-5 : (getD places 5 0 ≡ 0 → ⊥) → Sized bytes (getD places 5 0) 1
-  unfolding bodyOk pick
+  unfolding bodyOk pick conventions
   kept-5 = sized-by 5 1 (byte-wide 5)
 
   pub kept-6 : (getD places 6 0 ≡ 0 → ⊥) → Sized bytes (getD places 6 0) 1
-  unfolding bodyOk pick
+  unfolding bodyOk pick conventions
   kept-6 = sized-by 6 1 (byte-wide 5)
 
   pub kept-7 : (getD places 7 0 ≡ 0 → ⊥) → Sized bytes (getD places 7 0) 1

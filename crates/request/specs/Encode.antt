@@ -13,13 +13,13 @@ use Rattle.refusal.specs.Answer.{Answer, given, refused, need, ROOM, REQUEST}
 use Rattle.period.specs.declared.Unit.{Unit}
 use Rattle.period.specs.declared.Unit.the-variants.{Days, Weeks, Months, Years}
 use Rattle.period.specs.declared.Period.{Period}
-use Rattle.calendar.specs.declared.Convention.{Convention}
-use Rattle.calendar.specs.declared.Convention.the-variants.{Unadjusted, Following, ModifiedFollowing, Preceding, ModifiedPreceding}
+use Rattle.calendar.specs.Adjust.{conventionNumber}
 use Rattle.steps.specs.declared.Request.{Request}
 use Rattle.steps.specs.Rules.{ruleNumber}
 use Rattle.steps.specs.Build.{over}
 use Rattle.request.specs.declared.Encoded.{Encoded}
 use Rattle.request.specs.declared.Encoded.the-variants as encoded-is
+use Rattle.request.specs.Tags.{EFFECTIVE, TERMINATION, TENOR, RULE, CONVENTION, TERMINAL, MONTHEND, FIRST, PENULTIMATE, MASK, CLOSED, END}
 use Rattle.request.specs.Format.{Field}
 
 -- ---- numbers, high byte first
@@ -40,13 +40,6 @@ letterOf Weeks = 87
 letterOf Months = 77
 letterOf Years = 89
 
-unfoldable pub conventionNumber : Convention → ℕ
-conventionNumber Unadjusted = 0
-conventionNumber Following = 1
-conventionNumber ModifiedFollowing = 2
-conventionNumber Preceding = 3
-conventionNumber ModifiedPreceding = 4
-
 unfoldable pub bit : Bool → ℕ
 bit true = 1
 bit false = 0
@@ -64,17 +57,17 @@ field tag body = record { tag = tag; body = body }
 
 unfoldable pub fieldsIn : Request → List ℕ → List Field
 fieldsIn q closed =
-    field 1 (bytes4 (q .effective .day))
-    ∷ field 2 (bytes4 (q .termination .day))
-    ∷ field 3 (tenorBody (q .tenor))
-    ∷ field 4 (ruleNumber (q .rule) ∷ [])
-    ∷ field 5 (conventionNumber (q .convention) ∷ [])
-    ∷ field 6 (conventionNumber (q .terminal) ∷ [])
-    ∷ field 7 (bit (q .monthend) ∷ [])
-    ∷ field 8 (bytes4 (q .first .day))
-    ∷ field 9 (bytes4 (q .penultimate .day))
-    ∷ field 10 (q .mask ∷ [])
-    ∷ field 11 (datesIn closed)
+    field EFFECTIVE (bytes4 (q .effective .day))
+    ∷ field TERMINATION (bytes4 (q .termination .day))
+    ∷ field TENOR (tenorBody (q .tenor))
+    ∷ field RULE (ruleNumber (q .rule) ∷ [])
+    ∷ field CONVENTION (conventionNumber (q .convention) ∷ [])
+    ∷ field TERMINAL (conventionNumber (q .terminal) ∷ [])
+    ∷ field MONTHEND (bit (q .monthend) ∷ [])
+    ∷ field FIRST (bytes4 (q .first .day))
+    ∷ field PENULTIMATE (bytes4 (q .penultimate .day))
+    ∷ field MASK (q .mask ∷ [])
+    ∷ field CLOSED (datesIn closed)
     ∷ []
 
 abbrev pub headOf : ℕ → ℕ → List ℕ
@@ -84,7 +77,7 @@ abbrev pub spelt : ℕ → List ℕ → List ℕ
 spelt tag body = headOf tag (length body) ++ body
 
 unfoldable pub written : List Field → List ℕ
-written [] = spelt 255 []
+written [] = spelt END []
 written (f ∷ fs) = spelt (f .tag) (f .body) ++ written fs
 
 unfoldable pub bytesOf : Request → List ℕ → List ℕ
@@ -96,16 +89,16 @@ laid old at s = sets old at s
 
 -- the same bytes in four parts: dates and tenor, rule to end of month, anchors and mask, closed dates and FF
 abbrev pub datesPart : Request → List ℕ
-datesPart q = spelt 1 (bytes4 (q .effective .day)) ++ (spelt 2 (bytes4 (q .termination .day)) ++ spelt 3 (tenorBody (q .tenor)))
+datesPart q = spelt EFFECTIVE (bytes4 (q .effective .day)) ++ (spelt TERMINATION (bytes4 (q .termination .day)) ++ spelt TENOR (tenorBody (q .tenor)))
 
 abbrev pub choicesPart : Request → List ℕ
-choicesPart q = spelt 4 (ruleNumber (q .rule) ∷ []) ++ (spelt 5 (conventionNumber (q .convention) ∷ []) ++ (spelt 6 (conventionNumber (q .terminal) ∷ []) ++ spelt 7 (bit (q .monthend) ∷ [])))
+choicesPart q = spelt RULE (ruleNumber (q .rule) ∷ []) ++ (spelt CONVENTION (conventionNumber (q .convention) ∷ []) ++ (spelt TERMINAL (conventionNumber (q .terminal) ∷ []) ++ spelt MONTHEND (bit (q .monthend) ∷ [])))
 
 abbrev pub anchorsPart : Request → List ℕ
-anchorsPart q = spelt 8 (bytes4 (q .first .day)) ++ (spelt 9 (bytes4 (q .penultimate .day)) ++ spelt 10 (q .mask ∷ []))
+anchorsPart q = spelt FIRST (bytes4 (q .first .day)) ++ (spelt PENULTIMATE (bytes4 (q .penultimate .day)) ++ spelt MASK (q .mask ∷ []))
 
 abbrev pub closedPart : List ℕ → List ℕ
-closedPart closed = spelt 11 (datesIn closed) ++ spelt 255 []
+closedPart closed = spelt CLOSED (datesIn closed) ++ spelt END []
 
 -- ---- what the format can say: a length of 16 bits with sign, a mask of seven days, at most 4,096 closed dates
 unfoldable pub fits16 : ℤ → Bool

@@ -12,10 +12,13 @@ use Rattle.period.specs.declared.Unit.the-variants.{Days, Weeks, Months, Years}
 use Rattle.period.specs.declared.Period.{Period}
 use Rattle.date.specs.declared.Date.{Date}
 use Rattle.calendar.specs.declared.Convention.{Convention}
-use Rattle.calendar.specs.declared.Convention.the-variants.{Unadjusted, Following, ModifiedFollowing, Preceding, ModifiedPreceding}
+use Rattle.calendar.specs.declared.Convention.the-variants.{ModifiedPreceding}
+use Rattle.calendar.specs.Adjust.{conventions}
 use Rattle.steps.specs.declared.Rule.{Rule}
-use Rattle.steps.specs.declared.Rule.the-variants.{Zero, Backward, Forward, Twentieth, TwentiethIMM, ThirdWednesday, ThirdWednesdayInclusive, OldCDS, CDS, CDS2015}
+use Rattle.steps.specs.declared.Rule.the-variants.{CDS2015}
 use Rattle.steps.specs.declared.Request.{Request}
+use Rattle.steps.specs.Rules.{rules}
+use Rattle.request.specs.Tags.{EFFECTIVE, TERMINATION, TENOR, RULE, CONVENTION, TERMINAL, MONTHEND, FIRST, PENULTIMATE, MASK, CLOSED, END}
 
 unfoldable pub pick : {A : Type 0} → Bool → A → A → A
 pick true a b = a
@@ -47,20 +50,20 @@ isBelow limit s = eqb (length s) 1 && ltb (getD s 0 0) limit
 unfoldable pub areDates : List ℕ → Bool
 areDates s = leb (length s) 16384 && eqb (length s % 4) 0
 
--- the fields 01 to 0B; no other tag is one
+-- the fields before the end; no other tag is one
 unfoldable pub bodyOk : ℕ → List ℕ → Bool
 bodyOk tag s =
-    pick (eqb tag 1) (isDate s)
-    (pick (eqb tag 2) (isDate s)
-    (pick (eqb tag 3) (isTenor s)
-    (pick (eqb tag 4) (isBelow 10 s)
-    (pick (eqb tag 5) (isBelow 5 s)
-    (pick (eqb tag 6) (isBelow 5 s)
-    (pick (eqb tag 7) (isBelow 2 s)
-    (pick (eqb tag 8) (isDate s)
-    (pick (eqb tag 9) (isDate s)
-    (pick (eqb tag 10) (isBelow 128 s)
-    (pick (eqb tag 11) (areDates s)
+    pick (eqb tag EFFECTIVE) (isDate s)
+    (pick (eqb tag TERMINATION) (isDate s)
+    (pick (eqb tag TENOR) (isTenor s)
+    (pick (eqb tag RULE) (isBelow (length rules) s)
+    (pick (eqb tag CONVENTION) (isBelow (length conventions) s)
+    (pick (eqb tag TERMINAL) (isBelow (length conventions) s)
+    (pick (eqb tag MONTHEND) (isBelow 2 s)
+    (pick (eqb tag FIRST) (isDate s)
+    (pick (eqb tag PENULTIMATE) (isDate s)
+    (pick (eqb tag MASK) (isBelow 128 s)
+    (pick (eqb tag CLOSED) (areDates s)
     false))))))))))
 
 -- ---- a field: one-byte tag, two-byte length, body
@@ -95,7 +98,7 @@ onField true fs c on = need REQUEST (isEnd c) (given fs)
 onField false fs c on = need REQUEST (bodyOk (c .field .tag) (c .field .body)) (on (c .field ∷ fs) (c .rest))
 
 unfoldable pub onCut : List Field → (List Field → List ℕ → Answer (List Field)) → Cut → Answer (List Field)
-onCut fs on c = need REQUEST (ltb (lastTag fs) (c .field .tag)) (onField (eqb (c .field .tag) 255) fs c on)
+onCut fs on c = need REQUEST (ltb (lastTag fs) (c .field .tag)) (onField (eqb (c .field .tag) END) fs c on)
 
 -- each field takes three bytes at least, so that a request has fewer of them than bytes
 unfoldable pub fieldsFrom : ℕ → List Field → List ℕ → Answer (List Field)
@@ -121,26 +124,12 @@ unitOf b = pick (eqb b 68) Days (pick (eqb b 87) Weeks (pick (eqb b 77) Months Y
 unfoldable pub tenorOf : List ℕ → Period
 tenorOf s = record { length = signed16 (two (getD s 1 0) (getD s 2 0)); unit = unitOf (getD s 0 0) }
 
+-- places in document 01's lists; the byte lies below the list's length
 unfoldable pub ruleOf : ℕ → Rule
-ruleOf b =
-    pick (eqb b 0) Zero
-    (pick (eqb b 1) Backward
-    (pick (eqb b 2) Forward
-    (pick (eqb b 3) Twentieth
-    (pick (eqb b 4) TwentiethIMM
-    (pick (eqb b 5) ThirdWednesday
-    (pick (eqb b 6) ThirdWednesdayInclusive
-    (pick (eqb b 7) OldCDS
-    (pick (eqb b 8) CDS
-    CDS2015))))))))
+ruleOf b = getD rules b CDS2015
 
 unfoldable pub conventionOf : ℕ → Convention
-conventionOf b =
-    pick (eqb b 0) Unadjusted
-    (pick (eqb b 1) Following
-    (pick (eqb b 2) ModifiedFollowing
-    (pick (eqb b 3) Preceding
-    ModifiedPreceding)))
+conventionOf b = getD conventions b ModifiedPreceding
 
 -- closed dates, 4 bytes each
 unfoldable pub datesOf : ℕ → List ℕ → List ℕ
@@ -151,20 +140,20 @@ datesOf (suc n) s = four (getD s 0 0) (getD s 1 0) (getD s 2 0) (getD s 3 0) ∷
 unfoldable pub requestFrom : (List ℕ → ℕ → List ℕ) → Request
 requestFrom body =
     record {
-      effective = dateOf (body [] 1);
-      termination = dateOf (body [] 2);
-      tenor = tenorOf (body (68 ∷ 0 ∷ 0 ∷ []) 3);
-      rule = ruleOf (byteOf (body (1 ∷ []) 4));
-      convention = conventionOf (byteOf (body (0 ∷ []) 5));
-      terminal = conventionOf (byteOf (body (0 ∷ []) 6));
-      monthend = eqb (byteOf (body (0 ∷ []) 7)) 1;
-      first = dateOf (body [] 8);
-      penultimate = dateOf (body [] 9);
-      mask = byteOf (body (0 ∷ []) 10);
+      effective = dateOf (body [] EFFECTIVE);
+      termination = dateOf (body [] TERMINATION);
+      tenor = tenorOf (body (68 ∷ 0 ∷ 0 ∷ []) TENOR);
+      rule = ruleOf (byteOf (body (1 ∷ []) RULE));
+      convention = conventionOf (byteOf (body (0 ∷ []) CONVENTION));
+      terminal = conventionOf (byteOf (body (0 ∷ []) TERMINAL));
+      monthend = eqb (byteOf (body (0 ∷ []) MONTHEND)) 1;
+      first = dateOf (body [] FIRST);
+      penultimate = dateOf (body [] PENULTIMATE);
+      mask = byteOf (body (0 ∷ []) MASK);
     }
 
 unfoldable pub closedFrom : (List ℕ → ℕ → List ℕ) → List ℕ
-closedFrom body = datesOf (length (body [] 11) / 4) (body [] 11)
+closedFrom body = datesOf (length (body [] CLOSED) / 4) (body [] CLOSED)
 
 pub record Asked : Type 0 where
   pub request : Request
@@ -173,7 +162,7 @@ pub record Asked : Type 0 where
 -- both dates needed; then room for the closed dates
 unfoldable pub askedFrom : ℕ → (List ℕ → ℕ → List ℕ) → Answer Asked
 askedFrom room body =
-    need REQUEST (isDate (body [] 1) && isDate (body [] 2))
+    need REQUEST (isDate (body [] EFFECTIVE) && isDate (body [] TERMINATION))
     (need ROOM (leb (length (closedFrom body)) room)
     (given (record { request = requestFrom body; closed = closedFrom body })))
 

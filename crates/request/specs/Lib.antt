@@ -1,3 +1,4 @@
+pub mod Tags
 pub mod Format
 pub mod Picks
 pub mod Encode

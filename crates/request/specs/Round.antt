@@ -20,10 +20,11 @@ use Rattle.calendar.specs.declared.Convention.the-variants.{Unadjusted, Followi
 use Rattle.steps.specs.declared.Rule.{Rule}
 use Rattle.steps.specs.declared.Rule.the-variants.{Zero, Backward, Forward, Twentieth, TwentiethIMM, ThirdWednesday, ThirdWednesdayInclusive, OldCDS, CDS, CDS2015}
 use Rattle.steps.specs.declared.Request.{Request}
-use Rattle.steps.specs.Rules.{ruleNumber}
+use Rattle.steps.specs.Rules.{rules, ruleNumber}
 use Rattle.request.specs.Format.{pick, two, four, signed16, isDate, isLetter, isTenor, isBelow, areDates, bodyOk, Field, sizeIn, cutAt, cutOf, lastTag, isEnd, onField, onCut, fieldsFrom, bodyOr, dateOf, unitOf, tenorOf, ruleOf, conventionOf, datesOf, requestFrom, closedFrom, askedFrom, askedIn, decoded}
 use Rattle.request.specs.Picks.{taken, left}
-use Rattle.request.specs.Encode.{bits16, letterOf, conventionNumber, bit, tenorBody, datesIn, field, fieldsIn, spelt, written, bytesOf, fits16, sayable, encoded}
+use Rattle.calendar.specs.Adjust.{conventions, conventionNumber}
+use Rattle.request.specs.Encode.{bits16, letterOf, bit, tenorBody, datesIn, field, fieldsIn, spelt, written, bytesOf, fits16, sayable, encoded}
 
 -- ---- bodies read back
 four-back : (n : ℕ) → four (n / 256 / 256 / 256) (n / 256 / 256 % 256) (n / 256 % 256) (n % 256) ≡ n
@@ -55,7 +56,7 @@ letter-ok Months = refl
 letter-ok Years = refl
 
 rule-back : (r : Rule) → ruleOf (ruleNumber r) ≡ r
-unfolding ruleOf ruleNumber pick
+unfolding ruleOf rules ruleNumber
 rule-back Zero = refl
 rule-back Backward = refl
 rule-back Forward = refl
@@ -67,8 +68,8 @@ rule-back OldCDS = refl
 rule-back CDS = refl
 rule-back CDS2015 = refl
 
-rule-ok : (r : Rule) → ltb (ruleNumber r) 10 ≡ true
-unfolding ruleNumber
+rule-ok : (r : Rule) → ltb (ruleNumber r) (length rules) ≡ true
+unfolding rules ruleNumber
 rule-ok Zero = refl
 rule-ok Backward = refl
 rule-ok Forward = refl
@@ -81,15 +82,15 @@ rule-ok CDS = refl
 rule-ok CDS2015 = refl
 
 convention-back : (c : Convention) → conventionOf (conventionNumber c) ≡ c
-unfolding conventionOf conventionNumber pick
+unfolding conventionOf conventions conventionNumber
 convention-back Unadjusted = refl
 convention-back Following = refl
 convention-back ModifiedFollowing = refl
 convention-back Preceding = refl
 convention-back ModifiedPreceding = refl
 
-convention-ok : (c : Convention) → ltb (conventionNumber c) 5 ≡ true
-unfolding conventionNumber
+convention-ok : (c : Convention) → ltb (conventionNumber c) (length conventions) ≡ true
+unfolding conventions conventionNumber
 convention-ok Unadjusted = refl
 convention-ok Following = refl
 convention-ok ModifiedFollowing = refl

@@ -12,8 +12,9 @@ use Rattle.period.specs.declared.Unit.the-variants.{Days, Months, Weeks}
 use Rattle.calendar.specs.declared.Convention.the-variants.{Unadjusted, Preceding, ModifiedPreceding}
 use Rattle.steps.specs.declared.Rule.the-variants.{Backward, CDS2015}
 use Rattle.steps.specs.declared.Request.{Request}
-use Rattle.steps.specs.Rules.{ruleNumber}
-use Rattle.request.specs.Encode.{bits16, letterOf, conventionNumber, bit, datesIn, fieldsIn, written, bytesOf, fits16, sayable, encoded}
+use Rattle.steps.specs.Rules.{rules, ruleNumber}
+use Rattle.calendar.specs.Adjust.{conventions, conventionNumber}
+use Rattle.request.specs.Encode.{bits16, letterOf, bit, datesIn, fieldsIn, written, bytesOf, fits16, sayable, encoded}
 use Rattle.request.specs.Format.{pick, signed16, isDate, isLetter, isTenor, isBelow, areDates, bodyOk, cutOf, lastTag, isEnd, onField, onCut, fieldsFrom, bodyOr, dateOf, unitOf, tenorOf, ruleOf, conventionOf, datesOf, requestFrom, closedFrom, askedFrom, askedIn, decoded}
 
 abbrev from : List ℕ
@@ -46,7 +47,7 @@ asking length unit =
 
 -- document 01's bytes, and what they ask for
 pub sample : decoded (from ++ to ++ monthly ++ end) 0 ≡ given (record { request = asking (pos 1) Months; closed = [] })
-unfolding need then pick signed16 isDate isLetter isTenor isBelow areDates bodyOk cutOf lastTag isEnd onField onCut fieldsFrom bodyOr dateOf unitOf tenorOf ruleOf conventionOf datesOf requestFrom closedFrom askedFrom askedIn decoded
+unfolding need then pick signed16 isDate isLetter isTenor isBelow areDates bodyOk cutOf lastTag isEnd onField onCut fieldsFrom bodyOr dateOf unitOf tenorOf ruleOf rules conventionOf conventions datesOf requestFrom closedFrom askedFrom askedIn decoded
 sample = refl
 
 -- a tenor of -2 weeks, every byte at the end of its list, two closed dates
@@ -71,12 +72,12 @@ pub furthest : decoded far 2 ≡ given (record {
   };
   closed = 738157 ∷ 738159 ∷ [];
 })
-unfolding need then pick signed16 isDate isLetter isTenor isBelow areDates bodyOk cutOf lastTag isEnd onField onCut fieldsFrom bodyOr dateOf unitOf tenorOf ruleOf conventionOf datesOf requestFrom closedFrom askedFrom askedIn decoded
+unfolding need then pick signed16 isDate isLetter isTenor isBelow areDates bodyOk cutOf lastTag isEnd onField onCut fieldsFrom bodyOr dateOf unitOf tenorOf ruleOf rules conventionOf conventions datesOf requestFrom closedFrom askedFrom askedIn decoded
 furthest = refl
 
 -- a list with room for one of the two
 pub no-room : decoded far 1 ≡ refused 14
-unfolding need then pick signed16 isDate isLetter isTenor isBelow areDates bodyOk cutOf lastTag isEnd onField onCut fieldsFrom bodyOr dateOf unitOf tenorOf ruleOf conventionOf datesOf requestFrom closedFrom askedFrom askedIn decoded
+unfolding need then pick signed16 isDate isLetter isTenor isBelow areDates bodyOk cutOf lastTag isEnd onField onCut fieldsFrom bodyOr dateOf unitOf tenorOf ruleOf rules conventionOf conventions datesOf requestFrom closedFrom askedFrom askedIn decoded
 no-room = refl
 
 -- ---- bytes that are no request
@@ -122,7 +123,7 @@ bad =
     []
 
 pub none : (map (λ s. number (decoded s 9)) bad) ≡ (17 ∷ 17 ∷ 17 ∷ 17 ∷ 17 ∷ 17 ∷ 17 ∷ 17 ∷ 17 ∷ 17 ∷ 17 ∷ 17 ∷ 17 ∷ 17 ∷ 17 ∷ 17 ∷ 17 ∷ 17 ∷ 17 ∷ 17 ∷ 17 ∷ 17 ∷ 17 ∷ 17 ∷ [])
-unfolding need then pick signed16 isDate isLetter isTenor isBelow areDates bodyOk cutOf lastTag isEnd onField onCut fieldsFrom bodyOr dateOf unitOf tenorOf ruleOf conventionOf datesOf requestFrom closedFrom askedFrom askedIn decoded number
+unfolding need then pick signed16 isDate isLetter isTenor isBelow areDates bodyOk cutOf lastTag isEnd onField onCut fieldsFrom bodyOr dateOf unitOf tenorOf ruleOf rules conventionOf conventions datesOf requestFrom closedFrom askedFrom askedIn decoded number
 none = refl
 
 -- ---- encoded: every field written, and the refusals

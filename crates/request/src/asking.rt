@@ -4,10 +4,12 @@ ghost use mathlib.Core.List.{[], _∷_};
 ghost use Prim.Native.Nat.{_+_, _*_, _/_, _≤_};
 ghost use lib.ListN.{length};
 ghost use Rattle.steps.specs.Build.{over};
+ghost use Rattle.request.specs.Tags.{CLOSED};
 ghost use Rattle.request.specs.Format.{byteOf, dateOf, tenorOf, requestFrom};
 ghost use Rattle.request.specs.Places.{bodyAt, datesAt, Sized, Lies, Kept, placed};
 use crate::bodies;
 use crate::numbers;
+use crate::places;
 use date::Date;
 use period::Period;
 use period::Unit;
@@ -54,16 +56,16 @@ pub(crate) fn request_at(bytes: &[u8], places: &[usize]) -> Request
     requires { ⌜ Kept (now bytes) (now places) ⌝ }
     ensures { λ r. ⌜ r ≡ requestFrom (placed (now (bytes .entry)) (now (places .entry))) ⌝ }
 {
-    let effective = date_at(bytes, places[1]);
-    let termination = date_at(bytes, places[2]);
-    let tenor = tenor_at(bytes, places[3]);
-    let rule = bodies::rule_of(byte_at(bytes, places[4], 1));
-    let convention = bodies::convention_of(byte_at(bytes, places[5], 0));
-    let terminal = bodies::convention_of(byte_at(bytes, places[6], 0));
-    let monthend = byte_at(bytes, places[7], 0) == 1;
-    let first = date_at(bytes, places[8]);
-    let penultimate = date_at(bytes, places[9]);
-    let mask = byte_at(bytes, places[10], 0);
+    let effective = date_at(bytes, places[places::EFFECTIVE]);
+    let termination = date_at(bytes, places[places::TERMINATION]);
+    let tenor = tenor_at(bytes, places[places::TENOR]);
+    let rule = bodies::rule_of(byte_at(bytes, places[places::RULE], 1));
+    let convention = bodies::convention_of(byte_at(bytes, places[places::CONVENTION], 0));
+    let terminal = bodies::convention_of(byte_at(bytes, places[places::TERMINAL], 0));
+    let monthend = byte_at(bytes, places[places::MONTHEND], 0) == 1;
+    let first = date_at(bytes, places[places::FIRST]);
+    let penultimate = date_at(bytes, places[places::PENULTIMATE]);
+    let mask = byte_at(bytes, places[places::MASK], 0);
     Request {
         effective,
         termination,
@@ -79,7 +81,7 @@ pub(crate) fn request_at(bytes: &[u8], places: &[usize]) -> Request
 }
 
 pub(crate) fn closed_count(bytes: &[u8], place: usize) -> usize
-    requires { ⌜ ((place ≡ 0 → ⊥) → Lies (now bytes) place 11) ⌝ }
+    requires { ⌜ ((place ≡ 0 → ⊥) → Lies (now bytes) place CLOSED) ⌝ }
     ensures { λ r. ⌜ r ≡ length (bodyAt (now (bytes .entry)) [] place) / 4 ⌝ }
 {
     if place == 0 {

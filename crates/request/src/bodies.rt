@@ -1,6 +1,7 @@
 // What a field's body may be, and what its letters and bytes stand for.
 ghost use mathlib.Core.Path.{_≡_};
 ghost use Rattle.request.specs.Format.{isLetter, isTenor, isBelow, bodyOk, unitOf, ruleOf, conventionOf};
+use crate::tags;
 use calendar::Convention;
 use period::Unit;
 use steps::Rule;
@@ -40,17 +41,17 @@ pub(crate) fn body_ok(tag: u8, body: &[u8]) -> bool
     ensures { λ r. ⌜ r ≡ bodyOk tag (now (body .entry)) ⌝ }
 {
     match tag {
-        1 => body.len() == 4,
-        2 => body.len() == 4,
-        3 => is_tenor(body),
-        4 => is_below(10, body),
-        5 => is_below(5, body),
-        6 => is_below(5, body),
-        7 => is_below(2, body),
-        8 => body.len() == 4,
-        9 => body.len() == 4,
-        10 => is_below(128, body),
-        11 => body.len() <= 16384 && body.len() % 4 == 0,
+        tags::EFFECTIVE => body.len() == 4,
+        tags::TERMINATION => body.len() == 4,
+        tags::TENOR => is_tenor(body),
+        tags::RULE => is_below(10, body),
+        tags::CONVENTION => is_below(5, body),
+        tags::TERMINAL => is_below(5, body),
+        tags::MONTHEND => is_below(2, body),
+        tags::FIRST => body.len() == 4,
+        tags::PENULTIMATE => body.len() == 4,
+        tags::MASK => is_below(128, body),
+        tags::CLOSED => body.len() <= 16384 && body.len() % 4 == 0,
         _ => false,
     }
 }

@@ -4,6 +4,7 @@ ghost use lib.ListN.{length};
 ghost use Rattle.request.specs.Places.{Steps, Blank, reads};
 use crate::bodies;
 use crate::numbers;
+use crate::tags;
 
 // What stands next: a field with its tag and the length of its body, FF at the very end, or neither.
 pub(crate) enum Step {
@@ -28,7 +29,7 @@ fn next_field(bytes: &[u8], at: usize, last: u8) -> Step
     if tag <= last {
         return Step::Broken;
     }
-    if tag == 255 {
+    if tag == tags::END {
         if left == 3 {
             return Step::End;
         }

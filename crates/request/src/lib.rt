@@ -6,6 +6,10 @@ ghost use Rattle.request.specs.Decode.{Decodes};
 ghost use Rattle.request.specs.Encode.{Encodes, encoded};
 use steps::Request;
 
+// The tags of the fields.
+mod tags;
+// The list of places, by the fields' tags.
+mod places;
 // Numbers in the bytes, high byte first.
 mod numbers;
 // What a field's body may be.
@@ -34,13 +38,13 @@ fn answer(bytes: &[u8], places: &[usize], list: &mut [u32]) -> Decoded
     requires { ⌜ Kept (now bytes) (now places) ⌝ }
     ensures { λ r. ⌜ Decodes (askedFrom (length (now (list .entry))) (placed (now (bytes .entry)) (now (places .entry)))) r (now (list .entry)) (now (list .exit)) ⌝ }
 {
-    if places[1] == 0 {
+    if places[places::EFFECTIVE] == 0 {
         return Decoded::Refused(refusal::REQUEST);
     }
-    if places[2] == 0 {
+    if places[places::TERMINATION] == 0 {
         return Decoded::Refused(refusal::REQUEST);
     }
-    let from = places[11];
+    let from = places[places::CLOSED];
     let closed = asking::closed_count(bytes, from);
     if list.len() < closed {
         return Decoded::Refused(refusal::ROOM);

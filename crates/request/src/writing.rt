@@ -4,14 +4,18 @@ ghost use mathlib.Core.Bool.{true};
 ghost use mathlib.Core.List.{[], _∷_};
 ghost use Prim.Native.Nat.{_+_, _*_, _≤_, _<_};
 ghost use lib.ListN.{length};
+ghost use Rattle.calendar.specs.Adjust.{conventionNumber};
 ghost use Rattle.steps.specs.Build.{over};
-ghost use Rattle.request.specs.Encode.{bytes4, headOf, spelt, fits16, letterOf, conventionNumber, bit, tenorBody, datesIn, sayable, bytesOf, laid, datesPart, choicesPart, anchorsPart, closedPart};
+ghost use Rattle.request.specs.Tags.{TENOR};
+ghost use Rattle.request.specs.Encode.{bytes4, headOf, spelt, fits16, letterOf, bit, tenorBody, datesIn, sayable, bytesOf, laid, datesPart, choicesPart, anchorsPart, closedPart};
 ghost use Rattle.request.specs.Places.{Bits};
+use crate::tags;
 use calendar::Convention;
 use period::Period;
 use period::Unit;
 use period::sign;
 use steps::Request;
+use steps::rules;
 
 // Whether sixteen bits hold a number with its sign.
 fn fits_sixteen(n: i32) -> bool
@@ -122,12 +126,12 @@ fn put_byte(out: &mut [u8], at: usize, tag: u8, b: u8)
 
 fn put_tenor(out: &mut [u8], at: usize, tenor: Period)
     requires { ⌜ (at + 6 ≤ length (now out)) × (fits16 (tenor .length) ≡ true) ⌝ }
-    ensures { λ _. ⌜ now (out .exit) ≡ laid (now (out .entry)) at (spelt 3 (tenorBody tenor)) ⌝ }
+    ensures { λ _. ⌜ now (out .exit) ≡ laid (now (out .entry)) at (spelt TENOR (tenorBody tenor)) ⌝ }
 {
     let n = bits_of(tenor.length);
     let unit = tenor.unit;
     let letter = letter_of(unit);
-    put_head(out, at, 3, 3);
+    put_head(out, at, tags::TENOR, 3);
     out[at + 3] = letter;
     out[at + 4] = (n / 256) as u8;
     out[at + 5] = (n % 256) as u8;
@@ -138,8 +142,8 @@ fn put_dates(q: Request, out: &mut [u8])
     requires { ⌜ (60 ≤ length (now out)) × (fits16 (q .tenor .length) ≡ true) ⌝ }
     ensures { λ _. ⌜ now (out .exit) ≡ laid (now (out .entry)) 0 (datesPart q) ⌝ }
 {
-    put_date(out, 0, 1, q.effective.day);
-    put_date(out, 7, 2, q.termination.day);
+    put_date(out, 0, tags::EFFECTIVE, q.effective.day);
+    put_date(out, 7, tags::TERMINATION, q.termination.day);
     let tenor = q.tenor;
     put_tenor(out, 14, tenor);
 }
@@ -152,10 +156,10 @@ fn put_choices(q: Request, out: &mut [u8])
     let rule = q.rule;
     let convention = q.convention;
     let terminal = q.terminal;
-    put_byte(out, 20, 4, crossing::rule_number(rule));
-    put_byte(out, 24, 5, convention_number(convention));
-    put_byte(out, 28, 6, convention_number(terminal));
-    put_byte(out, 32, 7, bit_of(q.monthend));
+    put_byte(out, 20, tags::RULE, rules::rule_number(rule));
+    put_byte(out, 24, tags::CONVENTION, convention_number(convention));
+    put_byte(out, 28, tags::TERMINAL, convention_number(terminal));
+    put_byte(out, 32, tags::MONTHEND, bit_of(q.monthend));
 }
 
 // The fields 08 to 0A.
@@ -163,9 +167,9 @@ fn put_anchors(q: Request, out: &mut [u8])
     requires { ⌜ 60 ≤ length (now out) ⌝ }
     ensures { λ _. ⌜ now (out .exit) ≡ laid (now (out .entry)) 36 (anchorsPart q) ⌝ }
 {
-    put_date(out, 36, 8, q.first.day);
-    put_date(out, 43, 9, q.penultimate.day);
-    put_byte(out, 50, 10, q.mask);
+    put_date(out, 36, tags::FIRST, q.first.day);
+    put_date(out, 43, tags::PENULTIMATE, q.penultimate.day);
+    put_byte(out, 50, tags::MASK, q.mask);
 }
 
 fn put_words(out: &mut [u8], at: usize, closed: &[u32])
@@ -185,9 +189,9 @@ fn put_closed(closed: &[u32], out: &mut [u8])
     ensures { λ _. ⌜ now (out .exit) ≡ laid (now (out .entry)) 54 (closedPart (now (closed .entry))) ⌝ }
 {
     let size = closed.len() * 4;
-    put_head(out, 54, 11, size);
+    put_head(out, 54, tags::CLOSED, size);
     put_words(out, 57, closed);
-    put_head(out, 57 + size, 255, 0);
+    put_head(out, 57 + size, tags::END, 0);
 }
 
 pub(crate) fn put_request(q: Request, closed: &[u32], out: &mut [u8])

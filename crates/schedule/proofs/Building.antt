@@ -18,15 +18,15 @@ use Rattle.steps.specs.TableLaws.{accepted}
 use Rattle.steps.specs.Generate.{nothing, put, zeroDates, forward}
 use Rattle.steps.specs.Fewer.{keptBackward, keptBy, kept, keptFinish, keptSteps}
 use Rattle.steps.specs.FewerLaws.{kept-steps}
-use Rattle.steps.specs.Build.{Schedule, stepsOf, admitted, buildOf, answered, datesAfter, flagsAfter, Written}
+use Rattle.steps.specs.Build.{refusedBuilt, Schedule, stepsOf, admitted, buildOf, answered, datesAfter, flagsAfter, Written}
 use Rattle.working.specs.declared.Filled.{Filled}
 use Rattle.working.specs.declared.Filled.the-variants as filled-is
-use Rattle.backwards.specs.declared.Generated.{Generated}
-use Rattle.backwards.specs.declared.Generated.the-variants as generated-is
+use Rattle.working.specs.declared.Generated.{Generated}
+use Rattle.working.specs.declared.Generated.the-variants as generated-is
 use Rattle.working.specs.Part.{Part, held, lastPut, Filling}
-use Rattle.finish.specs.Finishing.{scheduled, Lent, refusedBuilt, completed}
+use Rattle.finish.specs.Finishing.{scheduled, Lent, completed}
 use Rattle.finish.specs.Lending.{lent-fits, completed-on}
-use Rattle.backwards.specs.Making.{Checked, generated, Lies, Generates}
+use Rattle.working.specs.Making.{Checked, generated, Lies, Generates}
 use Rattle.working.specs.Held.{put-length}
 use Rattle.working.specs.Chains.{filled-part, filled-given}
 
@@ -85,7 +85,7 @@ module _ (l : List ℕ) (at n end : ℕ) (size : length l ≡ 4096) (e : end ≡
 
 -- ---- refusals, and what was generated
 pub refusal-written : (q : Request) (o : Answer Schedule) (k : ℕ) (r : Built) (dates flags : List ℕ) → r ≡ refusedBuilt k → refused k ≡ o → Written q o r dates flags dates flags
-unfolding refusedBuilt answered datesAfter flagsAfter
+unfolding answered datesAfter flagsAfter
 refusal-written q o k r dates flags b e = rw (← e) (record { answer = b; dates-after = refl; flags-after = refl })
 
 module _ (q : Request) (closed : List ℕ) (lent : ℕ) {room : ℕ} {g : Generated} {work marks : List ℕ} (p : Generates room (kept q closed room) g work marks) (least : room ≡ min lent 4096) where

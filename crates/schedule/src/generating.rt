@@ -2,11 +2,11 @@
 ghost use Rattle.steps.specs.Generate.{zeroDates};
 ghost use Rattle.steps.specs.Fewer.{kept};
 ghost use Rattle.working.specs.Part.{Part};
-ghost use Rattle.backwards.specs.Making.{Checked, Generates};
-use backwards::Generated;
+ghost use Rattle.working.specs.Making.{Checked, Generates};
 use steps::Request;
 use steps::rules;
 use working::Filled;
+use working::Generated;
 use working::lists;
 
 // Zero: the effective date and termination.

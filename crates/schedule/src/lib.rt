@@ -8,11 +8,11 @@ ghost use Rattle.calendar.specs.Open.{closedOk};
 ghost use Rattle.steps.specs.Build.{Written, stepsOf, buildOf};
 ghost use Rattle.steps.specs.Fewer.{keptFinish};
 ghost use Rattle.working.specs.Part.{Part};
-ghost use Rattle.backwards.specs.Making.{Checked};
+ghost use Rattle.working.specs.Making.{Checked};
 ghost use Rattle.finish.specs.Finishing.{scheduled};
-use backwards::Generated;
 use steps::Built;
 use steps::Request;
+use working::Generated;
 
 // The dates of a build, by its rule.
 mod generating;
@@ -72,7 +72,7 @@ fn run(
 {
     let made = generating::generate(q, closed, room, work, marks);
     match made {
-        Generated::Refused(k) => finish::refused(k),
+        Generated::Refused(k) => steps::refused(k),
         Generated::Ready {
             from,
             marked,
@@ -102,7 +102,7 @@ pub fn build(q: Request, closed: &[u32], dates: &mut [u32], flags: &mut [u8]) ->
 {
     let number = checks::input_refusal(q, closed, dates.len(), flags.len());
     if number != 0 {
-        return finish::refused(number);
+        return steps::refused(number);
     }
     let room = least(dates.len(), 4096);
     let mut work = [0u32; 4096];

@@ -9,10 +9,14 @@ use lib.Dec.{eqb}
 use lib.IntN.{ℤ, pos, negsuc}
 use mir.Syntax.{w32}
 use mir.Val.{SFits, ofZ}
+use denote.Enum.Declared.{tagOf}
+use types.Run.{OneOf}
 use borrow.Author.Needs.{needs}
 use borrow.Author.Tests.{ne-eqb, eq-eqb}
 use Rattle.refusal.specs.Answer.{Answer, given}
+use Rattle.period.specs.declared.Unit.the-variants.{Days}
 use Rattle.period.specs.Signed.{abs-small}
+use Rattle.period.specs.declared.Period.{Period}
 use Rattle.date.specs.declared.Fields.{Fields}
 use Rattle.date.specs.Civil.{fieldsOf}
 use Rattle.date.specs.Moves.{valid-at, year-at}
@@ -20,9 +24,19 @@ use Rattle.calendar.specs.Adjust.{atMonthEnd}
 use Rattle.steps.specs.declared.Rule.the-variants.{Zero}
 use Rattle.steps.specs.declared.Request.{Request}
 use Rattle.steps.specs.declared.Rule.{Rule}
-use Rattle.steps.specs.Rules.{isNone, ruleUnder, ruleInForce, isBackward}
+use Rattle.steps.specs.Rules.{rules, ruleNumber, isNone, ruleUnder, ruleInForce, isZero, isBackward, tenorUnder, tenorInForce}
+use Rattle.steps.specs.RuleLaws.{keysOf, tagsAre, told}
+use Rattle.steps.proofs.Rule.{the-type}
+use Rattle.steps.specs.Table.{isGiven}
+use Rattle.steps.specs.Generate.{anchorOr}
 use Rattle.steps.specs.Finish.{seedAsked, seedAtEnd}
+use Rattle.steps.specs.Build.{refusedBuilt}
 use Rattle.steps.specs.Fewer.{settles}
+
+-- ---- a `match` on a rule, with several rules to an arm
+pub arm : (f : Rule → Bool) (b : Bool) (rule : Rule) → OneOf (keysOf f b rules) (tagOf the-type rule) → b ≡ f rule
+unfolding rules ruleNumber tagsAre
+arm f b rule h = told (tagOf the-type) refl f b rule h
 
 -- ---- lengths
 pub none-test : (z : ℤ) → SFits w32 z → eqb (ofZ w32 z) 0 ≡ isNone z
@@ -42,6 +56,11 @@ module _ (q : Request) (none : Bool) where
   rule-asked p e = let t : isNone (q .tenor .length) ≡ false = cc in rw t
 
 pub ruleset rules-in-force = (rule-forced, rule-asked, needs)
+
+module _ (q : Request) (rule : Rule) (z : Bool) (r : rule ≡ ruleInForce q) (p : z ≡ isZero rule) where
+  pub tenor-under : (b : Bool) (tenor : Period) → z ≡ b → tenor ≡ tenorUnder b (q .tenor) → tenor ≡ tenorInForce q
+  unfolding tenorInForce
+  tenor-under b tenor e h = let v : isZero (ruleInForce q) ≡ b = sym (ap isZero r) ∙ sym p ∙ e in rw v h
 
 -- ---- whether candidates are kept as adjusted
 module _ (q : Request) where
@@ -86,3 +105,16 @@ module _ (monthend : Bool) (mask : ℕ) (closed : List ℕ) (seed : ℕ) where
   pub seed-asked : (r : Answer Bool) → monthend ≡ true → (seed ≡ 0 → ⊥) → r ≡ atMonthEnd mask closed seed → r ≡ seedAtEnd monthend mask closed seed
   unfolding seedAtEnd
   seed-asked r e z h = rw e (asked-of mask closed r seed z h)
+
+-- ---- anchors
+pub anchor-none : (anchor other : ℕ) → anchor ≡ 0 → other ≡ anchorOr anchor other
+unfolding anchorOr isGiven
+anchor-none anchor other e = simp (eq-eqb anchor 0 e)
+
+pub anchor-some : (anchor other : ℕ) → (anchor ≡ 0 → ⊥) → anchor ≡ anchorOr anchor other
+unfolding anchorOr isGiven
+anchor-some anchor other e = simp (ne-eqb anchor 0 e)
+
+-- ---- the record of a refusal
+pub refused-is : (n : ℕ) → record { number = n; count = 0; tries = 0; rule = Zero; tenor = record { length = pos 0; unit = Days } } ≡ refusedBuilt n
+refused-is n = refl

@@ -36,8 +36,11 @@ unfoldable pub buildOf : Request → List ℕ → ℕ → ℕ → Answer Schedul
 buildOf q closed dates flags = admitted (firstRow (inputRows q closed dates flags)) (stepsOf q closed) dates
 
 -- ---- what is answered, and what the lent lists hold
+abbrev pub refusedBuilt : ℕ → Built
+refusedBuilt n = record { number = n; count = 0; tries = 0; rule = Zero; tenor = record { length = pos 0; unit = Days } }
+
 unfoldable pub answered : Request → Answer Schedule → Built
-answered q (refused n) = record { number = n; count = 0; tries = 0; rule = Zero; tenor = record { length = pos 0; unit = Days } }
+answered q (refused n) = refusedBuilt n
 answered q (given s) =
     record { number = 0; count = length (s .dates); tries = s .tries; rule = ruleInForce q; tenor = tenorInForce q }
 

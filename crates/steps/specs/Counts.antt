@@ -16,11 +16,10 @@ use Rattle.steps.specs.declared.Seed.{Seed}
 use Rattle.steps.specs.declared.Request.{Request}
 use Rattle.steps.specs.Candidates.{Turn, past, skip, keep}
 use Rattle.steps.specs.declared.Rule.{Rule}
-use Rattle.steps.specs.declared.Rule.the-variants.{Zero, Backward, Forward, Twentieth, TwentiethIMM, ThirdWednesday, ThirdWednesdayInclusive, OldCDS, CDS, CDS2015}
 use Rattle.steps.specs.Rules.{ruleInForce, isZero, isBackward, isCredit, onTwentieths}
 use Rattle.steps.specs.Generate.{Lists, Walk, nothing, onto, hasRoom, put, putUnless, putNew, onTurn, walk, candidates, putAnchor, Made, zeroDates, putPenultimate, begun, ended, backwardEnd, backwardFrom, backward, putEarlier, creditOpening, openingBy, opening, Opened, putSeed, putFirst, putComing, putTwentieth, second, putClosing, closing, opened, shut, forwardEnd, forwardFrom, forward, generateBy, generate}
 use Rattle.steps.specs.Table.{firstRow, inputRows}
-use Rattle.steps.specs.Finish.{sameFlag, Merged, each, between, onFirst, onLast, onMiddle, wednesdays, adjustments, meetAtEnd, mergeEndIf, mergeEnd, mergeFrontIf, mergeFront, finish}
+use Rattle.steps.specs.Finish.{sameFlag, Merged, each, between, onFirst, onLast, onMiddle, wednesdays, wednesdaysBy, adjustments, meetAtEnd, mergeEndIf, mergeEnd, mergeFrontIf, mergeFront, finish}
 use Rattle.steps.specs.Build.{Schedule, stepsOf, admitted, buildOf}
 use Rattle.steps.specs.Parts.{as-many}
 
@@ -257,18 +256,15 @@ module _ (f : ℕ → Answer ℕ) (ds ys : List ℕ) where
 same-length : (ds ys : List ℕ) → given ds ≡ given ys → length ys ≡ length ds
 same-length ds ys h = ap length (one-given (given ys) ys ds refl (sym h))
 
+wednesdays-by-length : (middle all : Bool) (mask : ℕ) (closed ds ys : List ℕ) → wednesdaysBy middle all mask closed ds ≡ given ys → length ys ≡ length ds
+unfolding wednesdaysBy
+wednesdays-by-length true all mask closed ds ys h = middle-length _ ds ys h
+wednesdays-by-length false true mask closed ds ys h = as-many _ ds ys h
+wednesdays-by-length false false mask closed ds ys h = same-length ds ys h
+
 wednesdays-length : (rule : Rule) (mask : ℕ) (closed ds ys : List ℕ) → wednesdays rule mask closed ds ≡ given ys → length ys ≡ length ds
 unfolding wednesdays
-wednesdays-length Zero mask closed ds ys h = same-length ds ys h
-wednesdays-length Backward mask closed ds ys h = same-length ds ys h
-wednesdays-length Forward mask closed ds ys h = same-length ds ys h
-wednesdays-length Twentieth mask closed ds ys h = same-length ds ys h
-wednesdays-length TwentiethIMM mask closed ds ys h = same-length ds ys h
-wednesdays-length ThirdWednesday mask closed ds ys h = middle-length _ ds ys h
-wednesdays-length ThirdWednesdayInclusive mask closed ds ys h = as-many _ ds ys h
-wednesdays-length OldCDS mask closed ds ys h = same-length ds ys h
-wednesdays-length CDS mask closed ds ys h = same-length ds ys h
-wednesdays-length CDS2015 mask closed ds ys h = same-length ds ys h
+wednesdays-length rule mask closed ds ys h = wednesdays-by-length _ _ mask closed ds ys h
 
 adjustments-length : (q : Request) (closed : List ℕ) (seed : ℕ) (ds ys : List ℕ) → adjustments q closed seed ds ≡ given ys → length ys ≡ length ds
 unfolding adjustments

@@ -12,14 +12,15 @@ use Rattle.refusal.specs.Answer.{Answer, given, refused, need, then, ROOM}
 use Rattle.calendar.specs.Adjust.{adjusted}
 use Rattle.calendar.specs.Stays.{adjust-again}
 use Rattle.steps.specs.declared.Rule.{Rule}
-use Rattle.steps.specs.declared.Rule.the-variants.{Zero, Backward, Forward, Twentieth, TwentiethIMM, ThirdWednesday, ThirdWednesdayInclusive, OldCDS, CDS, CDS2015}
+use Rattle.steps.specs.declared.Rule.the-variants.{Backward}
 use Rattle.steps.specs.declared.Request.{Request}
 use Rattle.steps.specs.declared.Pace.{Pace}
 use Rattle.steps.specs.declared.Seed.{Seed}
-use Rattle.steps.specs.Rules.{ruleInForce, isZero, isBackward, isOldCDS, paceOf}
+use Rattle.steps.specs.Rules.{ruleNumber, oneOf, ruleInForce, isZero, isBackward, isOldCDS, paceOf}
+use Rattle.steps.specs.RuleLaws.{only}
 use Rattle.steps.specs.Candidates.{seedOf}
 use Rattle.steps.specs.Generate.{Lists, Made, newest, onto, hasRoom, put, putUnless, putNew, walk, candidates, lastTry, anchorOr, putAnchor, begun, putPenultimate, nothing, ended, backwardEnd, backSeed, backwardFrom, backward, generateBy, generate, madeBack}
-use Rattle.steps.specs.Finish.{Merged, each, moved, onFirst, onLast, onMiddle, wednesdays, unless, firstMove, lastMove, middleMove, seedAtEnd, adjustments, mergeEnd, mergeFront, finish}
+use Rattle.steps.specs.Finish.{Merged, each, moved, onFirst, onLast, onMiddle, wednesdays, wednesdaysBy, unless, firstMove, lastMove, middleMove, seedAtEnd, adjustments, mergeEnd, mergeFront, finish}
 use Rattle.steps.specs.Build.{Schedule, stepsOf}
 use Rattle.steps.specs.Fewer.{settles, turnKept, keptFrom, keptBackward, keptBy, kept, middleUnless, lastAndMiddle, fewAdjustments, keptFinish, keptSteps}
 use Rattle.steps.specs.Parts.{on-first, on-last, on-middle, on-no-middle, each-moved}
@@ -55,33 +56,21 @@ settles-so q h =
       no-penultimate = eqb-true _ _ (c .0);
     }
 
-is-backward-rule : (r : Rule) → isBackward r ≡ true → r ≡ Backward
-unfolding isBackward
-is-backward-rule Zero h = absurd (false≢true h)
-is-backward-rule Backward h = refl
-is-backward-rule Forward h = absurd (false≢true h)
-is-backward-rule Twentieth h = absurd (false≢true h)
-is-backward-rule TwentiethIMM h = absurd (false≢true h)
-is-backward-rule ThirdWednesday h = absurd (false≢true h)
-is-backward-rule ThirdWednesdayInclusive h = absurd (false≢true h)
-is-backward-rule OldCDS h = absurd (false≢true h)
-is-backward-rule CDS h = absurd (false≢true h)
-is-backward-rule CDS2015 h = absurd (false≢true h)
-
 -- ---- the last steps
 module _ (q : Request) (closed : List ℕ) (yes : settles q ≡ true) where
   abbrev adjust : ℕ → Answer ℕ
   adjust = adjusted (q .mask) closed (q .convention)
 
   rule-is : ruleInForce q ≡ Backward
-  rule-is = is-backward-rule (ruleInForce q) (settles-so q yes .backwards)
+  unfolding isBackward
+  rule-is = only (ruleInForce q) Backward (settles-so q yes .backwards)
 
   first-adjusts : moved (q .mask) closed (firstMove q) ≡ adjust
-  unfolding firstMove unless isOldCDS moved
+  unfolding firstMove unless isOldCDS oneOf ruleNumber moved
   first-adjusts = rw rule-is refl
 
   no-wednesdays : (ds : List ℕ) → wednesdays (ruleInForce q) (q .mask) closed ds ≡ given ds
-  unfolding wednesdays
+  unfolding wednesdays wednesdaysBy oneOf ruleNumber
   no-wednesdays ds = rw rule-is refl
 
   abbrev last-moves : ℕ → Answer ℕ
@@ -266,7 +255,7 @@ module _ (q : Request) (closed : List ℕ) (yes : settles q ≡ true) where
         by false = refl
 
     settled-steps : (room : ℕ) → stepsOf q closed room ≡ keptSteps q closed room
-    unfolding stepsOf keptSteps generate generateBy kept keptBy isZero isBackward
+    unfolding stepsOf keptSteps generate generateBy kept keptBy isZero isBackward oneOf ruleNumber
     settled-steps room = rw rule-is (backward-met (min room 4096))
 
 -- ---- a request that does not settle

@@ -13,11 +13,11 @@ use Rattle.calendar.specs.declared.Convention.{Convention}
 use Rattle.calendar.specs.declared.Convention.the-variants.{Unadjusted, Following, ModifiedFollowing, Preceding, ModifiedPreceding}
 use Rattle.calendar.specs.Adjust.{adjusted, lastOpen, atMonthEnd}
 use Rattle.steps.specs.declared.Rule.{Rule}
-use Rattle.steps.specs.declared.Rule.the-variants.{Zero, Backward, Forward, Twentieth, TwentiethIMM, ThirdWednesday, ThirdWednesdayInclusive, OldCDS, CDS, CDS2015}
+use Rattle.steps.specs.declared.Rule.the-variants.{ThirdWednesday, ThirdWednesdayInclusive}
 use Rattle.steps.specs.declared.Request.{Request}
 use Rattle.steps.specs.declared.Move.{Move}
 use Rattle.steps.specs.declared.Move.the-variants.{Stay, ThirdWednesdays, Adjust, MonthEnds, OpenMonthEnds}
-use Rattle.steps.specs.Rules.{ruleInForce, isCredit, isOldCDS}
+use Rattle.steps.specs.Rules.{oneOf, ruleInForce, isCredit, isOldCDS}
 
 -- ---- a date is moved
 unfoldable pub thirdWednesday : ℕ → Answer ℕ
@@ -49,17 +49,14 @@ unfoldable pub onMiddle : (ℕ → Answer ℕ) → List ℕ → Answer (List ℕ
 onMiddle f ds = between f 1 (1 + (length ds - 2)) ds
 
 -- ---- the third Wednesdays: the middle dates, or all
+unfoldable pub wednesdaysBy : Bool → Bool → ℕ → List ℕ → List ℕ → Answer (List ℕ)
+wednesdaysBy true all mask closed ds = onMiddle (moved mask closed ThirdWednesdays) ds
+wednesdaysBy false true mask closed ds = each (moved mask closed ThirdWednesdays) ds
+wednesdaysBy false false mask closed ds = given ds
+
 unfoldable pub wednesdays : Rule → ℕ → List ℕ → List ℕ → Answer (List ℕ)
-wednesdays Zero mask closed ds = given ds
-wednesdays Backward mask closed ds = given ds
-wednesdays Forward mask closed ds = given ds
-wednesdays Twentieth mask closed ds = given ds
-wednesdays TwentiethIMM mask closed ds = given ds
-wednesdays ThirdWednesday mask closed ds = onMiddle (moved mask closed ThirdWednesdays) ds
-wednesdays ThirdWednesdayInclusive mask closed ds = each (moved mask closed ThirdWednesdays) ds
-wednesdays OldCDS mask closed ds = given ds
-wednesdays CDS mask closed ds = given ds
-wednesdays CDS2015 mask closed ds = given ds
+wednesdays rule mask closed ds =
+    wednesdaysBy (oneOf rule (ThirdWednesday ∷ [])) (oneOf rule (ThirdWednesdayInclusive ∷ [])) mask closed ds
 
 -- ---- what moves the first date, the last date and the middle ones
 -- OldCDS never adjusts the first date, CDS and CDS2015 never the last

@@ -9,7 +9,7 @@ use lib.IntN.{natAbs}
 use lib.ListN.{length, getD, take, drop}
 use Rattle.refusal.specs.Answer.{Answer, given, refused, need, then, BOOK, ROOM}
 use Rattle.date.specs.Civil.{pickN}
-use Rattle.date.specs.Date.{shiftMonths}
+use Rattle.date.specs.Date.{SPAN-LAST, shiftMonths}
 use Rattle.calendar.specs.declared.Convention.{Convention}
 use Rattle.calendar.specs.Adjust.{adjusted, advanced}
 use Rattle.steps.specs.declared.Rule.{Rule}
@@ -62,9 +62,9 @@ onTurn room past k l again = given (record { lists = l; tries = k })
 onTurn room skip k l again = again l
 onTurn room (keep day) k l again = then (put room day 1 l) again
 
--- no candidate from 876,217 on is a day of the span, so 2 is what the steps meet there
+-- no candidate beyond the number of the span's last day is a day of it, so 2 is what the steps meet there
 unfoldable pub lastTry : ℕ
-lastTry = 876216
+lastTry = SPAN-LAST
 
 -- `left` candidates from the k-th on are looked at
 unfoldable pub walk : (ℕ → ℕ → Answer Turn) → ℕ → ℕ → ℕ → Lists → Answer Walk

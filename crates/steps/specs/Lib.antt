@@ -1,4 +1,5 @@
 pub mod Rules
+pub mod RuleLaws
 pub mod Table
 pub mod Rows
 pub mod TableLaws

@@ -1,7 +1,8 @@
 -- Document 01, "Schedule steps": the ten rules, and the groups of them that the steps speak of.
 -- Assumes nothing.
 use Prim.Native.Nat.{ℕ, _*_}
-use mathlib.Core.Bool.{Bool, true, false}
+use mathlib.Core.Bool.{Bool, true, false, _||_}
+use mathlib.Core.List.{List, [], _∷_}
 use lib.Dec.{eqb}
 use lib.IntN.{ℤ, pos, natAbs}
 use Rattle.period.specs.declared.Unit.{Unit}
@@ -12,7 +13,11 @@ use Rattle.steps.specs.declared.Rule.the-variants.{Zero, Backward, Forwa
 use Rattle.steps.specs.declared.Request.{Request}
 use Rattle.steps.specs.declared.Pace.{Pace}
 
--- document 01's numbers of the rules
+-- the rules in document 01's order, and their numbers, which are their places
+unfoldable pub rules : List Rule
+rules =
+    Zero ∷ Backward ∷ Forward ∷ Twentieth ∷ TwentiethIMM ∷ ThirdWednesday ∷ ThirdWednesdayInclusive ∷ OldCDS ∷ CDS ∷ CDS2015 ∷ []
+
 unfoldable pub ruleNumber : Rule → ℕ
 ruleNumber Zero = 0
 ruleNumber Backward = 1
@@ -25,80 +30,31 @@ ruleNumber OldCDS = 7
 ruleNumber CDS = 8
 ruleNumber CDS2015 = 9
 
+-- ---- a group of rules is a list of its members
+unfoldable pub oneOf : Rule → List Rule → Bool
+oneOf rule [] = false
+oneOf rule (member ∷ group) = eqb (ruleNumber rule) (ruleNumber member) || oneOf rule group
+
 unfoldable pub isZero : Rule → Bool
-isZero Zero = true
-isZero Backward = false
-isZero Forward = false
-isZero Twentieth = false
-isZero TwentiethIMM = false
-isZero ThirdWednesday = false
-isZero ThirdWednesdayInclusive = false
-isZero OldCDS = false
-isZero CDS = false
-isZero CDS2015 = false
+isZero rule = oneOf rule (Zero ∷ [])
 
 unfoldable pub isBackward : Rule → Bool
-isBackward Zero = false
-isBackward Backward = true
-isBackward Forward = false
-isBackward Twentieth = false
-isBackward TwentiethIMM = false
-isBackward ThirdWednesday = false
-isBackward ThirdWednesdayInclusive = false
-isBackward OldCDS = false
-isBackward CDS = false
-isBackward CDS2015 = false
+isBackward rule = oneOf rule (Backward ∷ [])
 
 -- the rules whose middle dates are twentieths
 unfoldable pub onTwentieths : Rule → Bool
-onTwentieths Zero = false
-onTwentieths Backward = false
-onTwentieths Forward = false
-onTwentieths Twentieth = true
-onTwentieths TwentiethIMM = true
-onTwentieths ThirdWednesday = false
-onTwentieths ThirdWednesdayInclusive = false
-onTwentieths OldCDS = true
-onTwentieths CDS = true
-onTwentieths CDS2015 = true
+onTwentieths rule = oneOf rule (Twentieth ∷ TwentiethIMM ∷ OldCDS ∷ CDS ∷ CDS2015 ∷ [])
 
 -- those of them that are limited to March, June, September and December
 unfoldable pub inImmMonths : Rule → Bool
-inImmMonths Zero = false
-inImmMonths Backward = false
-inImmMonths Forward = false
-inImmMonths Twentieth = false
-inImmMonths TwentiethIMM = true
-inImmMonths ThirdWednesday = false
-inImmMonths ThirdWednesdayInclusive = false
-inImmMonths OldCDS = true
-inImmMonths CDS = true
-inImmMonths CDS2015 = true
+inImmMonths rule = oneOf rule (TwentiethIMM ∷ OldCDS ∷ CDS ∷ CDS2015 ∷ [])
 
 -- those of them that start at the previous twentieth
 unfoldable pub isCredit : Rule → Bool
-isCredit Zero = false
-isCredit Backward = false
-isCredit Forward = false
-isCredit Twentieth = false
-isCredit TwentiethIMM = false
-isCredit ThirdWednesday = false
-isCredit ThirdWednesdayInclusive = false
-isCredit OldCDS = false
-isCredit CDS = true
-isCredit CDS2015 = true
+isCredit rule = oneOf rule (CDS ∷ CDS2015 ∷ [])
 
 unfoldable pub isOldCDS : Rule → Bool
-isOldCDS Zero = false
-isOldCDS Backward = false
-isOldCDS Forward = false
-isOldCDS Twentieth = false
-isOldCDS TwentiethIMM = false
-isOldCDS ThirdWednesday = false
-isOldCDS ThirdWednesdayInclusive = false
-isOldCDS OldCDS = true
-isOldCDS CDS = false
-isOldCDS CDS2015 = false
+isOldCDS rule = oneOf rule (OldCDS ∷ [])
 
 -- ---- length 0 forces Zero, and under Zero the tenor in force is 0 years
 unfoldable pub ruleUnder : Bool → Rule → Rule
@@ -111,20 +67,12 @@ isNone z = eqb (natAbs z) 0
 unfoldable pub ruleInForce : Request → Rule
 ruleInForce q = ruleUnder (isNone (q .tenor .length)) (q .rule)
 
-unfoldable pub tenorUnder : Rule → Period → Period
-tenorUnder Zero tenor = record { length = pos 0; unit = Years }
-tenorUnder Backward tenor = tenor
-tenorUnder Forward tenor = tenor
-tenorUnder Twentieth tenor = tenor
-tenorUnder TwentiethIMM tenor = tenor
-tenorUnder ThirdWednesday tenor = tenor
-tenorUnder ThirdWednesdayInclusive tenor = tenor
-tenorUnder OldCDS tenor = tenor
-tenorUnder CDS tenor = tenor
-tenorUnder CDS2015 tenor = tenor
+unfoldable pub tenorUnder : Bool → Period → Period
+tenorUnder true tenor = record { length = pos 0; unit = Years }
+tenorUnder false tenor = tenor
 
 unfoldable pub tenorInForce : Request → Period
-tenorInForce q = tenorUnder (ruleInForce q) (q .tenor)
+tenorInForce q = tenorUnder (isZero (ruleInForce q)) (q .tenor)
 
 -- ---- a tenor as a count of days or of months
 unfoldable pub paceBy : ℕ → Unit → Pace

@@ -2,7 +2,7 @@
 -- Assumes nothing.
 use Prim.Native.Nat.{ℕ}
 use mathlib.Core.Bool.{Bool, true, false, not, _&&_, _||_}
-use mathlib.Core.List.{List, [], _∷_}
+use mathlib.Core.List.{List, [], _∷_, _++_}
 use lib.Dec.{eqb, leb, ltb}
 use lib.IntN.{natAbs}
 use Rattle.refusal.specs.Answer.{UNEVEN, BOOK, CALENDAR, NEGATIVE, TENOR, FIRST-DATE, FIRST-NOT-IMM, FIRST-WRONG-RULE, LAST-DATE, LAST-NOT-IMM, LAST-WRONG-RULE, MONTHEND}
@@ -12,9 +12,9 @@ use Rattle.calendar.specs.Open.{calendarOk}
 use Rattle.calendar.specs.Calendar.{tenorOk}
 use Rattle.imm.specs.Imm.{isImm}
 use Rattle.steps.specs.declared.Rule.{Rule}
-use Rattle.steps.specs.declared.Rule.the-variants.{Zero, Backward, Forward, Twentieth, TwentiethIMM, ThirdWednesday, ThirdWednesdayInclusive, OldCDS, CDS, CDS2015}
+use Rattle.steps.specs.declared.Rule.the-variants.{Zero, Backward, Forward, ThirdWednesday}
 use Rattle.steps.specs.declared.Request.{Request}
-use Rattle.steps.specs.Rules.{ruleInForce}
+use Rattle.steps.specs.Rules.{oneOf, ruleInForce}
 
 -- a row of the table: its number, and whether it holds
 pub record Row : Type 0 where
@@ -40,39 +40,22 @@ anchorOk anchor = eqb anchor 0 || inBook anchor
 unfoldable pub datesOk : Request → Bool
 datesOk q = inBook (q .effective .day) && (inBook (q .termination .day) && (anchorOk (q .first .day) && anchorOk (q .penultimate .day)))
 
--- ---- 6 and 9 belong to Backward and Forward, 7 and 10 to ThirdWednesday, 8 and 11 to the seven other rules
-pub data Kind : Type 0 where
-  by-range : Kind
-  by-imm : Kind
-  by-none : Kind
+-- ---- anchors: 6 and 9 belong to Backward and Forward, 7 and 10 to ThirdWednesday, 8 and 11 to the seven other rules
+unfoldable pub byRange : Rule → Bool
+byRange rule = oneOf rule (Backward ∷ Forward ∷ [])
 
-unfoldable pub kindOf : Rule → Kind
-kindOf Zero = by-none
-kindOf Backward = by-range
-kindOf Forward = by-range
-kindOf Twentieth = by-none
-kindOf TwentiethIMM = by-none
-kindOf ThirdWednesday = by-imm
-kindOf ThirdWednesdayInclusive = by-none
-kindOf OldCDS = by-none
-kindOf CDS = by-none
-kindOf CDS2015 = by-none
+unfoldable pub byImm : Rule → Bool
+byImm rule = oneOf rule (ThirdWednesday ∷ [])
 
--- an anchor that is given, under each kind of rule; an absent one meets no row
-unfoldable pub outOfRange : Kind → ℕ → Bool → Bool
-outOfRange by-range anchor outside = isGiven anchor && outside
-outOfRange by-imm anchor outside = false
-outOfRange by-none anchor outside = false
+-- an absent anchor meets no row
+unfoldable pub outOfRange : Rule → ℕ → Bool → Bool
+outOfRange rule anchor outside = isGiven anchor && (byRange rule && outside)
 
-unfoldable pub notImm : Kind → ℕ → Bool
-notImm by-range anchor = false
-notImm by-imm anchor = isGiven anchor && not (isImm false anchor)
-notImm by-none anchor = false
+unfoldable pub notImm : Rule → ℕ → Bool
+notImm rule anchor = isGiven anchor && (byImm rule && not (isImm false anchor))
 
-unfoldable pub wrongRule : Kind → ℕ → Bool
-wrongRule by-range anchor = false
-wrongRule by-imm anchor = false
-wrongRule by-none anchor = isGiven anchor
+unfoldable pub wrongRule : Rule → ℕ → Bool
+wrongRule rule anchor = isGiven anchor && not (byRange rule || byImm rule)
 
 -- the first date: not after effective, or after termination
 unfoldable pub firstOutside : Request → Bool
@@ -84,21 +67,33 @@ lastOutside q = leb (q .penultimate .day) (q .effective .day) || leb (q .termina
 
 -- end of month goes with Zero, Backward and Forward
 unfoldable pub monthendAllowed : Rule → Bool
-monthendAllowed Zero = true
-monthendAllowed Backward = true
-monthendAllowed Forward = true
-monthendAllowed Twentieth = false
-monthendAllowed TwentiethIMM = false
-monthendAllowed ThirdWednesday = false
-monthendAllowed ThirdWednesdayInclusive = false
-monthendAllowed OldCDS = false
-monthendAllowed CDS = false
-monthendAllowed CDS2015 = false
+monthendAllowed rule = oneOf rule (Zero ∷ Backward ∷ Forward ∷ [])
 
 abbrev pub row : ℕ → Bool → Row
 row n b = record { number = n; holds = b }
 
--- 4 and 5 read the tenor given, 6 to 12 the rule in force
+-- ---- the rows that read the rule in force
+unfoldable pub anchorRows : Rule → ℕ → Bool → ℕ → ℕ → ℕ → List Row
+anchorRows rule anchor outside range imm wrong =
+    row range (outOfRange rule anchor outside)
+    ∷ row imm (notImm rule anchor)
+    ∷ row wrong (wrongRule rule anchor)
+    ∷ []
+
+unfoldable pub firstRows : Request → Rule → List Row
+firstRows q rule = anchorRows rule (q .first .day) (firstOutside q) FIRST-DATE FIRST-NOT-IMM FIRST-WRONG-RULE
+
+unfoldable pub lastRows : Request → Rule → List Row
+lastRows q rule = anchorRows rule (q .penultimate .day) (lastOutside q) LAST-DATE LAST-NOT-IMM LAST-WRONG-RULE
+
+unfoldable pub rowsUnder : Request → Rule → List Row
+rowsUnder q rule =
+    firstRows q rule
+    ++ (lastRows q rule
+    ++ (row MONTHEND (q .monthend && not (monthendAllowed rule))
+    ∷ []))
+
+-- ---- the table; 4 and 5 read the tenor given
 unfoldable pub inputRows : Request → List ℕ → ℕ → ℕ → List Row
 inputRows q closed dates flags =
     row UNEVEN (not (eqb dates flags))
@@ -106,11 +101,4 @@ inputRows q closed dates flags =
     ∷ row CALENDAR (not (calendarOk (q .mask) closed))
     ∷ row NEGATIVE (isNegative (q .tenor .length))
     ∷ row TENOR (not (tenorOk (natAbs (q .tenor .length)) (q .tenor .unit)))
-    ∷ row FIRST-DATE (outOfRange (kindOf (ruleInForce q)) (q .first .day) (firstOutside q))
-    ∷ row FIRST-NOT-IMM (notImm (kindOf (ruleInForce q)) (q .first .day))
-    ∷ row FIRST-WRONG-RULE (wrongRule (kindOf (ruleInForce q)) (q .first .day))
-    ∷ row LAST-DATE (outOfRange (kindOf (ruleInForce q)) (q .penultimate .day) (lastOutside q))
-    ∷ row LAST-NOT-IMM (notImm (kindOf (ruleInForce q)) (q .penultimate .day))
-    ∷ row LAST-WRONG-RULE (wrongRule (kindOf (ruleInForce q)) (q .penultimate .day))
-    ∷ row MONTHEND (q .monthend && not (monthendAllowed (ruleInForce q)))
-    ∷ []
+    ∷ rowsUnder q (ruleInForce q)

@@ -1,7 +1,7 @@
--- Document 01, "Refusal numbers": the answer of the input checks is the number of the first row that holds, and 0 exactly where none does;
--- the rows are 1 to 12, in order.
+-- Document 01, "Refusal numbers": the answer of a table is the number of the first row that holds, and 0 exactly where none does, for
+-- any list of rows; the rows of the input checks are 1 to 12, in order.
 -- Assumes nothing.
-use Prim.Native.Nat.{ℕ, suc, _%_}
+use Prim.Native.Nat.{ℕ, _%_, _<_}
 use mathlib.Core.Path.{_≡_, refl, sym, ap}
 use mathlib.Core.Bool.{Bool, true, false, not, _&&_}
 use mathlib.Core.List.{List, [], _∷_, _++_}
@@ -9,14 +9,16 @@ use native.Mathlib.Omega.{arith}
 use lib.Dec.{eqb}
 use lib.IntN.{natAbs}
 use borrow.Author.Tests.{eqb-true, not-false}
+use Rattle.refusal.specs.Answer.{UNEVEN, BOOK, CALENDAR, NEGATIVE, TENOR, FIRST-DATE, FIRST-NOT-IMM, FIRST-WRONG-RULE, LAST-DATE, LAST-NOT-IMM, LAST-WRONG-RULE, MONTHEND}
+use Rattle.refusal.specs.Refusals.{pick}
 use Rattle.refusal.specs.Laws.{both}
 use Rattle.period.specs.Signed.{isNegative}
 use Rattle.calendar.specs.Open.{closedOk, calendarOk}
 use Rattle.calendar.specs.Calendar.{tenorOk}
 use Rattle.steps.specs.declared.Request.{Request}
 use Rattle.steps.specs.Rules.{ruleInForce}
-use Rattle.steps.specs.Table.{Row, row, numberOr, firstRow, datesOk, kindOf, outOfRange, notImm, wrongRule, firstOutside, lastOutside, monthendAllowed, inputRows}
-use Rattle.steps.specs.Rows.{Numbered, none, one}
+use Rattle.steps.specs.Table.{Row, row, numberOr, firstRow, datesOk, outOfRange, notImm, wrongRule, firstOutside, lastOutside, monthendAllowed, anchorRows, firstRows, lastRows, rowsUnder, inputRows}
+use Rattle.steps.specs.Rows.{numbered, head-numbered, tail-numbered}
 
 -- ---- in any table
 pub data NoneHolds : List Row → Type 0 where
@@ -38,30 +40,63 @@ first-behind (nor-row k h) n behind = first-behind h n behind
 pub first-answers : {rows : List Row} {n : ℕ} → FirstHolds rows n → firstRow rows ≡ n
 first-answers f = rw (f .splits) (first-behind (f .none-before) _ (f .behind))
 
-pub answer-is-first : {rows : List Row} {n : ℕ} → Numbered rows → firstRow rows ≡ n → (n ≡ 0 → ⊥) → FirstHolds rows n
-unfolding firstRow numberOr
-answer-is-first none e z = absurd (z (sym e))
-answer-is-first (one m true {rows} w) e z =
-    record { before = []; behind = rows; splits = ap (λ (k : ℕ). row k true ∷ rows) e; none-before = no-row }
-answer-is-first (one m false {rows} w) e z =
-    let f = answer-is-first w e z in
+first-go : (n m : ℕ) (b : Bool) (rows : List Row) → (firstRow rows ≡ n → FirstHolds rows n) → numberOr b m (firstRow rows) ≡ n → FirstHolds (row m b ∷ rows) n
+unfolding numberOr
+first-go n m true rows again e = record { before = []; behind = rows; splits = ap (λ (k : ℕ). row k true ∷ rows) e; none-before = no-row }
+first-go n m false rows again e =
+    let f = again e in
     record {
-      before = row (suc m) false ∷ f .before;
+      before = row m false ∷ f .before;
       behind = f .behind;
-      splits = ap (λ (xs : List Row). row (suc m) false ∷ xs) (f .splits);
-      none-before = nor-row (suc m) (f .none-before);
+      splits = ap (λ (xs : List Row). row m false ∷ xs) (f .splits);
+      none-before = nor-row m (f .none-before);
     }
+
+pub answer-is-first : (rows : List Row) (n : ℕ) → firstRow rows ≡ n → (n ≡ 0 → ⊥) → FirstHolds rows n
+unfolding firstRow
+answer-is-first [] n e z = absurd (z (sym e))
+answer-is-first (r ∷ rows) n e z = first-go n (r .number) (r .holds) rows (λ h. answer-is-first rows n h z) e
 
 pub none-answers : {rows : List Row} → NoneHolds rows → firstRow rows ≡ 0
 unfolding firstRow numberOr
 none-answers no-row = refl
 none-answers (nor-row n h) = none-answers h
 
-pub answer-is-none : {rows : List Row} → Numbered rows → firstRow rows ≡ 0 → NoneHolds rows
-unfolding firstRow numberOr
-answer-is-none none e = no-row
-answer-is-none (one n true w) e = let bad : ⊥ = omega arith in absurd bad
-answer-is-none (one n false w) e = nor-row (suc n) (answer-is-none w e)
+none-go : (m : ℕ) (b : Bool) (rows : List Row) → 0 < m → (firstRow rows ≡ 0 → NoneHolds rows) → numberOr b m (firstRow rows) ≡ 0 → NoneHolds (row m b ∷ rows)
+unfolding numberOr
+none-go m true rows p again e = absurd (omega (arith, p, e))
+none-go m false rows p again e = nor-row m (again e)
+
+pub answer-is-none : (rows : List Row) → numbered rows ≡ true → firstRow rows ≡ 0 → NoneHolds rows
+unfolding firstRow
+answer-is-none [] w e = no-row
+answer-is-none (r ∷ rows) w e = none-go (r .number) (r .holds) rows (head-numbered r rows w) (answer-is-none rows (tail-numbered r rows w)) e
+
+module _ (rows : List Row) (w : numbered rows ≡ true) where
+  -- a refusal is given exactly when its row holds and is the first in the order
+  pub refused-exactly : (n : ℕ) → (n ≡ 0 → ⊥) → (firstRow rows ≡ n → FirstHolds rows n) × (FirstHolds rows n → firstRow rows ≡ n)
+  refused-exactly n z = ((λ e. answer-is-first rows n e z), (λ f. first-answers f))
+
+  -- and none is given exactly when no row holds
+  pub accepted-exactly : (firstRow rows ≡ 0 → NoneHolds rows) × (NoneHolds rows → firstRow rows ≡ 0)
+  accepted-exactly = ((λ e. answer-is-none rows w e), (λ h. none-answers h))
+
+-- whether the row with a number holds; where there is none, it does not
+unfoldable pub holdsIn : List Row → ℕ → Bool
+holdsIn [] n = false
+holdsIn (r ∷ rows) n = pick (eqb (r .number) n) (r .holds) (holdsIn rows n)
+
+not-go : (c b : Bool) (m : ℕ) (rows : List Row) (n : ℕ) → 0 < m → (firstRow rows ≡ 0 → holdsIn rows n ≡ false) → numberOr b m (firstRow rows) ≡ 0 → pick c b (holdsIn rows n) ≡ false
+unfolding numberOr pick
+not-go c true m rows n p again e = absurd (omega (arith, p, e))
+not-go true false m rows n p again e = refl
+not-go false false m rows n p again e = again e
+
+pub none-holds : (rows : List Row) → numbered rows ≡ true → firstRow rows ≡ 0 → (n : ℕ) → holdsIn rows n ≡ false
+unfolding firstRow holdsIn
+none-holds [] w e n = refl
+none-holds (r ∷ rows) w e n =
+    not-go (eqb (r .number) n) (r .holds) (r .number) rows n (head-numbered r rows w) (λ h. none-holds rows (tail-numbered r rows w) h n) e
 
 -- ---- in the table of the input checks
 unfoldable pub numbers : List Row → List ℕ
@@ -70,21 +105,12 @@ numbers (r ∷ rows) = r .number ∷ numbers rows
 
 module _ (q : Request) (closed : List ℕ) (dates flags : ℕ) where
   pub one-to-twelve : numbers (inputRows q closed dates flags) ≡ 1 ∷ 2 ∷ 3 ∷ 4 ∷ 5 ∷ 6 ∷ 7 ∷ 8 ∷ 9 ∷ 10 ∷ 11 ∷ 12 ∷ []
-  unfolding numbers inputRows
+  unfolding numbers inputRows rowsUnder firstRows lastRows anchorRows
   one-to-twelve = refl
 
-  pub input-numbered : Numbered (inputRows q closed dates flags)
-  unfolding inputRows
-  input-numbered =
-      one 0 _ (one 1 _ (one 2 _ (one 3 _ (one 4 _ (one 5 _ (one 6 _ (one 7 _ (one 8 _ (one 9 _ (one 10 _ (one 11 _ none)))))))))))
-
-  -- a refusal is given exactly when its row holds and is the first in this order
-  pub refused-exactly : (n : ℕ) → (n ≡ 0 → ⊥) → (firstRow (inputRows q closed dates flags) ≡ n → FirstHolds (inputRows q closed dates flags) n) × (FirstHolds (inputRows q closed dates flags) n → firstRow (inputRows q closed dates flags) ≡ n)
-  refused-exactly n z = ((λ e. answer-is-first input-numbered e z), (λ f. first-answers f))
-
-  -- and none is given exactly when no row holds
-  pub accepted-exactly : (firstRow (inputRows q closed dates flags) ≡ 0 → NoneHolds (inputRows q closed dates flags)) × (NoneHolds (inputRows q closed dates flags) → firstRow (inputRows q closed dates flags) ≡ 0)
-  accepted-exactly = ((λ e. answer-is-none input-numbered e), (λ h. none-answers h))
+  pub input-numbered : numbered (inputRows q closed dates flags) ≡ true
+  unfolding numbered inputRows rowsUnder firstRows lastRows anchorRows
+  input-numbered = refl
 
 -- ---- what the steps may build on
 pub record Accepted (q : Request) (closed : List ℕ) (dates flags : ℕ) : Type 0 where
@@ -94,55 +120,34 @@ pub record Accepted (q : Request) (closed : List ℕ) (dates flags : ℕ) : Type
   pub closed-holds : closedOk closed ≡ true
   pub not-negative : isNegative (q .tenor .length) ≡ false
   pub tenor-holds : tenorOk (natAbs (q .tenor .length)) (q .tenor .unit) ≡ true
-  pub first-in-range : outOfRange (kindOf (ruleInForce q)) (q .first .day) (firstOutside q) ≡ false
-  pub first-imm : notImm (kindOf (ruleInForce q)) (q .first .day) ≡ false
-  pub first-allowed : wrongRule (kindOf (ruleInForce q)) (q .first .day) ≡ false
-  pub last-in-range : outOfRange (kindOf (ruleInForce q)) (q .penultimate .day) (lastOutside q) ≡ false
-  pub last-imm : notImm (kindOf (ruleInForce q)) (q .penultimate .day) ≡ false
-  pub last-allowed : wrongRule (kindOf (ruleInForce q)) (q .penultimate .day) ≡ false
+  pub first-in-range : outOfRange (ruleInForce q) (q .first .day) (firstOutside q) ≡ false
+  pub first-imm : notImm (ruleInForce q) (q .first .day) ≡ false
+  pub first-allowed : wrongRule (ruleInForce q) (q .first .day) ≡ false
+  pub last-in-range : outOfRange (ruleInForce q) (q .penultimate .day) (lastOutside q) ≡ false
+  pub last-imm : notImm (ruleInForce q) (q .penultimate .day) ≡ false
+  pub last-allowed : wrongRule (ruleInForce q) (q .penultimate .day) ≡ false
   pub monthend-allowed : (q .monthend && not (monthendAllowed (ruleInForce q))) ≡ false
-
--- a row of a table of which none holds, and the rows behind it
-head-not : (n : ℕ) (b : Bool) (rows : List Row) → firstRow (row (suc n) b ∷ rows) ≡ 0 → b ≡ false
-unfolding firstRow numberOr
-head-not n true rows e = let bad : ⊥ = omega arith in absurd bad
-head-not n false rows e = refl
-
-behind-not : (n : ℕ) (b : Bool) (rows : List Row) → firstRow (row (suc n) b ∷ rows) ≡ 0 → firstRow rows ≡ 0
-unfolding firstRow numberOr
-behind-not n true rows e = let bad : ⊥ = omega arith in absurd bad
-behind-not n false rows e = e
 
 pub calendar-closed : (mask : ℕ) (closed : List ℕ) → calendarOk mask closed ≡ true → closedOk closed ≡ true
 unfolding calendarOk
 calendar-closed mask closed e = both (not (eqb (mask % 128) 127)) (closedOk closed) e .1
 
 pub accepted : (q : Request) (closed : List ℕ) (dates flags : ℕ) → firstRow (inputRows q closed dates flags) ≡ 0 → Accepted q closed dates flags
-unfolding inputRows
-accepted q closed dates flags e₁ =
-    let e₂ = behind-not 0 _ _ e₁ in
-    let e₃ = behind-not 1 _ _ e₂ in
-    let e₄ = behind-not 2 _ _ e₃ in
-    let e₅ = behind-not 3 _ _ e₄ in
-    let e₆ = behind-not 4 _ _ e₅ in
-    let e₇ = behind-not 5 _ _ e₆ in
-    let e₈ = behind-not 6 _ _ e₇ in
-    let e₉ = behind-not 7 _ _ e₈ in
-    let e₁₀ = behind-not 8 _ _ e₉ in
-    let e₁₁ = behind-not 9 _ _ e₁₀ in
-    let e₁₂ = behind-not 10 _ _ e₁₁ in
+unfolding inputRows rowsUnder firstRows lastRows anchorRows holdsIn pick
+accepted q closed dates flags e =
+    let no = none-holds (inputRows q closed dates flags) (input-numbered q closed dates flags) e in
     record {
-      even = eqb-true dates flags (not-false _ (head-not 0 _ _ e₁));
-      dates-hold = not-false _ (head-not 1 _ _ e₂);
-      calendar-holds = not-false _ (head-not 2 _ _ e₃);
-      closed-holds = calendar-closed (q .mask) closed (not-false _ (head-not 2 _ _ e₃));
-      not-negative = head-not 3 _ _ e₄;
-      tenor-holds = not-false _ (head-not 4 _ _ e₅);
-      first-in-range = head-not 5 _ _ e₆;
-      first-imm = head-not 6 _ _ e₇;
-      first-allowed = head-not 7 _ _ e₈;
-      last-in-range = head-not 8 _ _ e₉;
-      last-imm = head-not 9 _ _ e₁₀;
-      last-allowed = head-not 10 _ _ e₁₁;
-      monthend-allowed = head-not 11 _ _ e₁₂;
+      even = eqb-true dates flags (not-false _ (no UNEVEN));
+      dates-hold = not-false _ (no BOOK);
+      calendar-holds = not-false _ (no CALENDAR);
+      closed-holds = calendar-closed (q .mask) closed (not-false _ (no CALENDAR));
+      not-negative = no NEGATIVE;
+      tenor-holds = not-false _ (no TENOR);
+      first-in-range = no FIRST-DATE;
+      first-imm = no FIRST-NOT-IMM;
+      first-allowed = no FIRST-WRONG-RULE;
+      last-in-range = no LAST-DATE;
+      last-imm = no LAST-NOT-IMM;
+      last-allowed = no LAST-WRONG-RULE;
+      monthend-allowed = no MONTHEND;
     }

@@ -1,12 +1,14 @@
 // A request for a schedule, and the steps that a build is made of.
 ghost use mathlib.Core.Path.{_≡_};
 ghost use Rattle.date.specs.Date.{dated};
+ghost use Rattle.steps.specs.Build.{refusedBuilt};
 ghost use Rattle.steps.specs.Twentieths.{nextTwentiethOf, previousTwentiethOf};
 use calendar::Convention;
 use date::Date;
 use date::Dated;
 use date::in_book;
 use period::Period;
+use period::Unit;
 
 // The groups of rules, and the rule and the tenor in force.
 pub mod rules;
@@ -16,6 +18,8 @@ mod tenors;
 pub mod twentieths;
 // What becomes of a date after generating.
 pub mod moves;
+// The flag of a period.
+pub mod flags;
 // The seed that candidates are counted from.
 pub mod seeds;
 
@@ -81,6 +85,22 @@ pub struct Built {
     pub tries: u32,
     pub rule: Rule,
     pub tenor: Period,
+}
+
+// What a build that is refused answers.
+pub fn refused(n: u8) -> Built
+    ensures { λ r. ⌜ r ≡ refusedBuilt n ⌝ }
+{
+    Built {
+        number: n,
+        count: 0,
+        tries: 0,
+        rule: Rule::Zero,
+        tenor: Period {
+            length: 0,
+            unit: Unit::Days,
+        },
+    }
 }
 
 // The first twentieth on or after the date, for the rules of IMM months that of March, June, September or December.

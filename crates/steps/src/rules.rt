@@ -1,6 +1,6 @@
-// The groups of rules that the steps speak of, and the rule and the tenor in force.
+// The rules' numbers, the groups of rules that the steps speak of, and the rule and the tenor in force.
 ghost use mathlib.Core.Path.{_≡_};
-ghost use Rattle.steps.specs.Rules.{isZero, isBackward, onTwentieths, inImmMonths, isCredit, isOldCDS, ruleInForce, tenorInForce, tenorUnder};
+ghost use Rattle.steps.specs.Rules.{ruleNumber, isZero, isBackward, onTwentieths, inImmMonths, isCredit, isOldCDS, ruleInForce, tenorInForce};
 ghost use Rattle.steps.specs.Fewer.{settles};
 use crate::Request;
 use crate::Rule;
@@ -8,20 +8,30 @@ use crate::tenors;
 use period::Period;
 use period::Unit;
 
+// Document 01's number of a rule.
+pub fn rule_number(rule: Rule) -> u8
+    ensures { λ r. ⌜ r ≡ ruleNumber rule ⌝ }
+{
+    match rule {
+        Rule::Zero => 0,
+        Rule::Backward => 1,
+        Rule::Forward => 2,
+        Rule::Twentieth => 3,
+        Rule::TwentiethIMM => 4,
+        Rule::ThirdWednesday => 5,
+        Rule::ThirdWednesdayInclusive => 6,
+        Rule::OldCDS => 7,
+        Rule::CDS => 8,
+        Rule::CDS2015 => 9,
+    }
+}
+
 pub fn is_zero(rule: Rule) -> bool
     ensures { λ r. ⌜ r ≡ isZero rule ⌝ }
 {
     match rule {
         Rule::Zero => true,
-        Rule::Backward => false,
-        Rule::Forward => false,
-        Rule::Twentieth => false,
-        Rule::TwentiethIMM => false,
-        Rule::ThirdWednesday => false,
-        Rule::ThirdWednesdayInclusive => false,
-        Rule::OldCDS => false,
-        Rule::CDS => false,
-        Rule::CDS2015 => false,
+        _ => false,
     }
 }
 
@@ -29,16 +39,8 @@ pub fn is_backward(rule: Rule) -> bool
     ensures { λ r. ⌜ r ≡ isBackward rule ⌝ }
 {
     match rule {
-        Rule::Zero => false,
         Rule::Backward => true,
-        Rule::Forward => false,
-        Rule::Twentieth => false,
-        Rule::TwentiethIMM => false,
-        Rule::ThirdWednesday => false,
-        Rule::ThirdWednesdayInclusive => false,
-        Rule::OldCDS => false,
-        Rule::CDS => false,
-        Rule::CDS2015 => false,
+        _ => false,
     }
 }
 
@@ -47,16 +49,8 @@ pub fn on_twentieths(rule: Rule) -> bool
     ensures { λ r. ⌜ r ≡ onTwentieths rule ⌝ }
 {
     match rule {
-        Rule::Zero => false,
-        Rule::Backward => false,
-        Rule::Forward => false,
-        Rule::Twentieth => true,
-        Rule::TwentiethIMM => true,
-        Rule::ThirdWednesday => false,
-        Rule::ThirdWednesdayInclusive => false,
-        Rule::OldCDS => true,
-        Rule::CDS => true,
-        Rule::CDS2015 => true,
+        Rule::Twentieth | Rule::TwentiethIMM | Rule::OldCDS | Rule::CDS | Rule::CDS2015 => true,
+        _ => false,
     }
 }
 
@@ -65,16 +59,8 @@ pub fn in_imm_months(rule: Rule) -> bool
     ensures { λ r. ⌜ r ≡ inImmMonths rule ⌝ }
 {
     match rule {
-        Rule::Zero => false,
-        Rule::Backward => false,
-        Rule::Forward => false,
-        Rule::Twentieth => false,
-        Rule::TwentiethIMM => true,
-        Rule::ThirdWednesday => false,
-        Rule::ThirdWednesdayInclusive => false,
-        Rule::OldCDS => true,
-        Rule::CDS => true,
-        Rule::CDS2015 => true,
+        Rule::TwentiethIMM | Rule::OldCDS | Rule::CDS | Rule::CDS2015 => true,
+        _ => false,
     }
 }
 
@@ -83,16 +69,8 @@ pub fn is_credit(rule: Rule) -> bool
     ensures { λ r. ⌜ r ≡ isCredit rule ⌝ }
 {
     match rule {
-        Rule::Zero => false,
-        Rule::Backward => false,
-        Rule::Forward => false,
-        Rule::Twentieth => false,
-        Rule::TwentiethIMM => false,
-        Rule::ThirdWednesday => false,
-        Rule::ThirdWednesdayInclusive => false,
-        Rule::OldCDS => false,
-        Rule::CDS => true,
-        Rule::CDS2015 => true,
+        Rule::CDS | Rule::CDS2015 => true,
+        _ => false,
     }
 }
 
@@ -100,16 +78,8 @@ pub fn is_old_cds(rule: Rule) -> bool
     ensures { λ r. ⌜ r ≡ isOldCDS rule ⌝ }
 {
     match rule {
-        Rule::Zero => false,
-        Rule::Backward => false,
-        Rule::Forward => false,
-        Rule::Twentieth => false,
-        Rule::TwentiethIMM => false,
-        Rule::ThirdWednesday => false,
-        Rule::ThirdWednesdayInclusive => false,
         Rule::OldCDS => true,
-        Rule::CDS => false,
-        Rule::CDS2015 => false,
+        _ => false,
     }
 }
 
@@ -124,32 +94,18 @@ pub fn rule_in_force(q: Request) -> Rule
     q.rule
 }
 
-fn tenor_under(rule: Rule, tenor: Period) -> Period
-    ensures { λ r. ⌜ r ≡ tenorUnder rule tenor ⌝ }
-{
-    match rule {
-        Rule::Zero => Period {
-            length: 0,
-            unit: Unit::Years,
-        },
-        Rule::Backward => tenor,
-        Rule::Forward => tenor,
-        Rule::Twentieth => tenor,
-        Rule::TwentiethIMM => tenor,
-        Rule::ThirdWednesday => tenor,
-        Rule::ThirdWednesdayInclusive => tenor,
-        Rule::OldCDS => tenor,
-        Rule::CDS => tenor,
-        Rule::CDS2015 => tenor,
-    }
-}
-
 // Under Zero 0 years, else the tenor given.
 pub fn tenor_in_force(q: Request) -> Period
     ensures { λ r. ⌜ r ≡ tenorInForce q ⌝ }
 {
     let tenor = q.tenor;
-    tenor_under(rule_in_force(q), tenor)
+    if is_zero(rule_in_force(q)) {
+        return Period {
+            length: 0,
+            unit: Unit::Years,
+        };
+    }
+    tenor
 }
 
 // Whether the loop keeps candidates as adjusted: Backward, without end of month and without anchors, where nothing later asks for

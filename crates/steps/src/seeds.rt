@@ -6,11 +6,19 @@ ghost use Rattle.date.specs.Date.{monthIndex};
 ghost use Rattle.calendar.specs.Open.{closedOk};
 ghost use Rattle.calendar.specs.Calendar.{decided};
 ghost use Rattle.steps.specs.Candidates.{lastDay, seedOf};
+ghost use Rattle.steps.specs.Generate.{anchorOr};
 ghost use Rattle.steps.specs.Finish.{seedAtEnd};
 use crate::Seed;
 use calendar::Decided;
 use calendar::search;
 use date::civil;
+
+// An anchor, or the other date where it is absent.
+pub fn anchor_or(anchor: u32, other: u32) -> u32
+    ensures { λ r. ⌜ r ≡ anchorOr anchor other ⌝ }
+{
+    if anchor == 0 { other } else { anchor }
+}
 
 // The null calendar's month end.
 fn is_last_day(day: u32) -> bool

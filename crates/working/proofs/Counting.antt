@@ -1,21 +1,21 @@
--- A law for each way through `pace_of` and `candidate`, and how far candidates go.
+-- A law for each way through `pace_of` and `candidate`.
 -- Assumes nothing.
 use mathlib.Core.Path.{_≡_}
 use mathlib.Core.Bool.{Bool, true, false}
-use Prim.Native.Nat.{ℕ, _+_, _-_, _*_, _/_, _%_, _≤_, _<_, min}
-use native.Mathlib.Nat.{mul-le-mul, le-mul-of-pos-right}
+use Prim.Native.Nat.{ℕ, _+_, _-_, _*_, _≤_, _<_, min}
+use native.Mathlib.Nat.{mul-le-mul}
 use native.Mathlib.Omega.{arith}
 use lib.Dec.{leb}
 use lib.IntN.{natAbs}
 use mir.Syntax.{w32, w64}
 use mir.Val.{Fits}
-use borrow.Author.Tests.{leb-true, lt-leb}
-use Rattle.refusal.specs.Answer.{Answer, given, refused, BOOK}
-use Rattle.refusal.specs.Laws.{fails, after, need-given}
+use borrow.Author.Tests.{lt-leb}
+use Rattle.refusal.specs.Answer.{Answer, refused, BOOK}
+use Rattle.refusal.specs.Laws.{fails, after}
 use Rattle.period.specs.declared.Unit.the-variants.{Days, Weeks, Months, Years}
 use Rattle.period.specs.declared.Period.{Period}
-use Rattle.date.specs.Date.{step, shifted, shiftDays, withinSpan, inMonth}
-use Rattle.date.specs.Made.{made, make-early}
+use Rattle.date.specs.Date.{SPAN-FIRST, SPAN-LAST, step, shifted, shiftDays, withinSpan, inMonth}
+use Rattle.date.specs.Made.{make-early}
 use Rattle.date.specs.Moves.{month-late}
 use Rattle.steps.specs.declared.Pace.{Pace}
 use Rattle.steps.specs.declared.Seed.{Seed}
@@ -69,8 +69,8 @@ module _ (back : Bool) (pace : Pace) (seed : Seed) (k : ℕ) (r : Answer ℕ) wh
 -- further off than a u32 counts there is no day of the span
 days-far : (back : Bool) (day n : ℕ) → day < 4294967296 → 4294967295 < n → refused BOOK ≡ withinSpan (step back day n)
 unfolding step withinSpan
-days-far true day n h f = let e : day - n ≡ 0 = omega arith in rw e (fails BOOK _ _ (lt-leb 657072 0 (omega arith)))
-days-far false day n h f = after BOOK (leb 657072 (day + n)) _ (fails BOOK _ _ (lt-leb (day + n) 876216 (omega arith)))
+days-far true day n h f = let e : day - n ≡ 0 = omega arith in rw e (fails BOOK _ _ (lt-leb SPAN-FIRST 0 (omega arith)))
+days-far false day n h f = after BOOK (leb SPAN-FIRST (day + n)) _ (fails BOOK _ _ (lt-leb (day + n) SPAN-LAST (omega arith)))
 
 before-span : (d : ℕ) → refused BOOK ≡ inMonth 0 d
 unfolding inMonth
@@ -89,35 +89,3 @@ far-by true back seed n d m f = months-far back (seed .month) n (seed .keep) m f
 pub candidate-far : (back : Bool) (pace : Pace) (seed : Seed) (k n : ℕ) → n ≡ k * pace .size → seed .day < 4294967296 → seed .month < 4294967296 → 4294967295 < n → refused BOOK ≡ candidate back pace seed k
 unfolding candidate
 candidate-far back pace seed k n e d m f = far-by (pace .monthly) back seed (k * pace .size) d m (rw e at f)
-
--- ---- a candidate that is a day has few before it: a seed lies in the span, and a tenor is at least a day or a month
-span-given : (n r : ℕ) → withinSpan n ≡ given r → (657072 ≤ n) × (n ≤ 876216)
-unfolding withinSpan
-span-given n r h =
-    let a = need-given BOOK (leb 657072 n) _ r h in
-    let b = need-given BOOK (leb n 876216) _ r (a .1) in
-    (leb-true 657072 n (a .0), leb-true n 876216 (b .0))
-
-month-given : (t d r : ℕ) → inMonth t d ≡ given r → (21600 ≤ t) × (t ≤ 28799)
-unfolding inMonth
-month-given t d r h = let m = made (t / 12) (t % 12 + 1) _ r h in (omega (arith, m .from-1800), omega (arith, m .to-2399))
-
-days-few : (back : Bool) (day n r : ℕ) → 657072 ≤ day → day ≤ 876216 → withinSpan (step back day n) ≡ given r → n ≤ 219144
-unfolding step
-days-few true day n r a b h = let s = span-given (day - n) r h in omega arith
-days-few false day n r a b h = let s = span-given (day + n) r h in omega arith
-
-months-few : (back : Bool) (t n d r : ℕ) → t ≤ 30000 → inMonth (step back t n) d ≡ given r → n ≤ 30000
-unfolding step
-months-few true t n d r a h = let s = month-given (t - n) d r h in omega arith
-months-few false t n d r a h = let s = month-given (t + n) d r h in omega arith
-
-few-go : (monthly back : Bool) (seed : Seed) (n r : ℕ) → 657072 ≤ seed .day → seed .day ≤ 876216 → seed .month ≤ 30000 → candidateBy monthly back seed n ≡ given r → n ≤ 219144
-unfolding candidateBy
-few-go false back seed n r a b m h = days-few back (seed .day) n r a b h
-few-go true back seed n r a b m h = omega (arith, months-few back (seed .month) n (seed .keep) r m h)
-
-pub candidates-few : (back : Bool) (pace : Pace) (seed : Seed) (k r : ℕ) → 1 ≤ pace .size → 657072 ≤ seed .day → seed .day ≤ 876216 → seed .month ≤ 30000 → candidate back pace seed k ≡ given r → k + 1 ≤ 876216
-unfolding candidate
-candidates-few back pace seed k r p a b m h =
-    omega (arith, few-go (pace .monthly) back seed (k * pace .size) r a b m h, le-mul-of-pos-right k p)

@@ -3,4 +3,3 @@ pub mod Counting
 pub mod Turns
 pub mod Walking
 pub mod Additions
-pub mod Fuel

@@ -10,6 +10,7 @@ use lib.ListN.{length}
 use lib.Dec.{eqb}
 use Rattle.refusal.specs.Answer.{Answer, given, refused, then, BOOK}
 use Rattle.date.specs.Civil.{pickN}
+use Rattle.date.specs.Date.{SPAN-LAST}
 use Rattle.calendar.specs.declared.Convention.{Convention}
 use Rattle.calendar.specs.declared.search.Near.{Near}
 use Rattle.calendar.specs.Open.{closedOk}
@@ -20,7 +21,7 @@ use Rattle.steps.specs.declared.Seed.{Seed}
 use Rattle.steps.specs.Candidates as steps
 use Rattle.steps.specs.Candidates.{candidate, isPast, unlessSame}
 use Rattle.steps.specs.Fewer.{unlessPastKept, turnKept}
-use Rattle.steps.specs.Generate.{Lists, Walk, newest, put, onTurn, walk}
+use Rattle.steps.specs.Generate.{Lists, Walk, newest, put, onTurn, lastTry, walk}
 use Rattle.working.specs.declared.Filled.{Filled}
 use Rattle.working.specs.declared.Filled.the-variants as filled-is
 use Rattle.working.specs.declared.candidates.Turn.{Turn}
@@ -36,7 +37,7 @@ pub record Going (settled : Bool) (mask : ℕ) (closed : List ℕ) (convention :
   pub begun : Begun closed room n work marks
   pub front-known : Front mask closed convention front (newest (held back n work marks))
   pub month-known : OneMonth (near .from) (near .to)
-  pub same : walk (turnKept settled mask closed convention back pace seed exit) room (876217 - k) k (held back n work marks) ≡ o
+  pub same : walk (turnKept settled mask closed convention back pace seed exit) room (suc SPAN-LAST - k) k (held back n work marks) ≡ o
 
 front-unknown : (mask : ℕ) (closed : List ℕ) (convention : Convention) (day : ℕ) → Front mask closed convention 0 day
 front-unknown mask closed convention day = record { known = λ h. absurd (h refl) }
@@ -44,20 +45,21 @@ front-unknown mask closed convention day = record { known = λ h. absurd (h refl
 none-known : OneMonth 1 0
 none-known = record { alike = λ a b l m h. let bad : ⊥ = omega arith in absurd bad }
 
-pub going-start : (settled : Bool) (mask : ℕ) (closed : List ℕ) (convention : Convention) (back : Bool) (pace : Pace) (seed : Seed) (exit room n : ℕ) (work marks : List ℕ) → Begun closed room n work marks → Going settled mask closed convention back pace seed exit room (walk (turnKept settled mask closed convention back pace seed exit) room 876216 1 (held back n work marks)) work marks n 1 0 (record { place = 0; from = 1; to = 0 })
+pub going-start : (settled : Bool) (mask : ℕ) (closed : List ℕ) (convention : Convention) (back : Bool) (pace : Pace) (seed : Seed) (exit room n : ℕ) (work marks : List ℕ) → Begun closed room n work marks → Going settled mask closed convention back pace seed exit room (walk (turnKept settled mask closed convention back pace seed exit) room lastTry 1 (held back n work marks)) work marks n 1 0 (record { place = 0; from = 1; to = 0 })
+unfolding lastTry
 going-start settled mask closed convention back pace seed exit room n work marks b =
     record { begun = b; front-known = front-unknown mask closed convention _; month-known = none-known; same = refl }
 
 module _ {settled : Bool} {mask : ℕ} {closed : List ℕ} {convention : Convention} {back : Bool} {pace : Pace} {seed : Seed} {exit room : ℕ} {o : Answer Walk} {work marks : List ℕ} {n k front : ℕ} {near : Near} (g : Going settled mask closed convention back pace seed exit room o work marks n k front near) where
   -- the candidates have been looked at
-  pub walk-out : 876216 < k → Walking mask closed convention back room o (Refused 2) work marks
+  pub walk-out : SPAN-LAST < k → Walking mask closed convention back room o (Refused 2) work marks
   unfolding walk walked Stands
   walk-out h =
-      let a : 876217 - k ≡ 0 = omega arith in
+      let a : suc SPAN-LAST - k ≡ 0 = omega arith in
       let s : refused BOOK ≡ o = rw a at (g .same) in
       record { says = s; stands = tt }
 
-  module _ (few : k ≤ 876216) (day : ℕ) (at : length work ≡ 4096 → n < 4097 → day ≡ newest (held back n work work)) where
+  module _ (few : k ≤ SPAN-LAST) (day : ℕ) (at : length work ≡ 4096 → n < 4097 → day ≡ newest (held back n work work)) where
     here : day ≡ newest (held back n work marks)
     here =
         let p = g .begun .part in
@@ -70,10 +72,10 @@ module _ {settled : Bool} {mask : ℕ} {closed : List ℕ} {convention : Convent
       t : Compared mask closed convention day (turnKept settled mask closed convention back pace seed exit day k) r
       t = turned (g .begun .calendar) front-here (g .month-known)
 
-      opened : then (told r) (λ t. onTurn room t k (held back n work marks) (walk (turnKept settled mask closed convention back pace seed exit) room (876217 - suc k) (suc k))) ≡ o
+      opened : then (told r) (λ t. onTurn room t k (held back n work marks) (walk (turnKept settled mask closed convention back pace seed exit) room (suc SPAN-LAST - suc k) (suc k))) ≡ o
       unfolding walk
       opened =
-          let a : 876217 - k ≡ suc (876217 - suc k) = omega arith in
+          let a : suc SPAN-LAST - k ≡ suc (suc SPAN-LAST - suc k) = omega arith in
           let s = rw (a, ← here) at (g .same) in
           rw (t .says) s
 
@@ -101,7 +103,7 @@ module _ {settled : Bool} {mask : ℕ} {closed : List ℕ} {convention : Convent
         p : Filling back room (put room d 1 (held back n work marks)) f work′ marks′
         p = filled-so (g .begun .part)
 
-        kept : then (filled back f work′ marks′) (walk (turnKept settled mask closed convention back pace seed exit) room (876217 - suc k) (suc k)) ≡ o
+        kept : then (filled back f work′ marks′) (walk (turnKept settled mask closed convention back pace seed exit) room (suc SPAN-LAST - suc k) (suc k)) ≡ o
         unfolding told then onTurn
         kept = rw (p .says) (rw e at opened)
 

@@ -4,3 +4,5 @@ pub mod Chains
 pub mod Paces
 pub mod Turning
 pub mod Adding
+pub mod Making
+pub mod After

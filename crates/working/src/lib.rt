@@ -15,3 +15,15 @@ pub enum Filled {
     Ready(usize),
     Refused(u8),
 }
+
+// What has been generated: n dates from a place on in the working list, and the flags between them from another place on.
+pub enum Generated {
+    Ready {
+        from: usize,
+        marked: usize,
+        n: usize,
+        tries: u32,
+        seed: u32,
+    },
+    Refused(u8),
+}

@@ -4,7 +4,6 @@ ghost use Prim.Native.Nat.{_<_};
 ghost use lib.ListN.{length};
 ghost use Rattle.refusal.specs.Answer.{then};
 ghost use Rattle.steps.specs.Generate.{nothing, put, newest};
-ghost use Rattle.steps.specs.Finish.{sameFlag};
 ghost use Rattle.working.specs.Part.{Part, held, hasPlace, placeOf, Filling};
 use crate::Filled;
 
@@ -80,11 +79,4 @@ pub fn put_two(
         Filled::Refused(k) => Filled::Refused(k),
         Filled::Ready(n) => put(back, n, room, two, 1, work, marks),
     }
-}
-
-// The mark of a date: 1 if it equals the one that a whole tenor leads to.
-pub fn same_flag(a: u32, b: u32) -> u8
-    ensures { λ r. ⌜ r ≡ sameFlag a b ⌝ }
-{
-    if a == b { 1 } else { 0 }
 }

@@ -1,6 +1,6 @@
 // The loop over the candidates.
 ghost use Rattle.steps.specs.Fewer.{turnKept};
-ghost use Rattle.steps.specs.Generate.{walk};
+ghost use Rattle.steps.specs.Generate.{lastTry, walk};
 ghost use Rattle.working.specs.Part.{Begun, held};
 ghost use Rattle.working.specs.Turning.{Walking};
 use crate::Filled;
@@ -10,6 +10,7 @@ use crate::lists;
 use calendar::Convention;
 use calendar::search;
 use calendar::search::Near;
+use date::span;
 use steps::Pace;
 use steps::Seed;
 
@@ -20,7 +21,7 @@ pub enum Walked {
 }
 
 // Candidates are put behind the `start` dates that are there, as adjusted in a settled build, up to the first beyond the exit
-// date. No candidate from 876,217 on is a day of the span, so 2 is what the loop would meet there.
+// date. No candidate beyond the number of the span's last day is a day of it, so 2 is what the loop would meet there.
 pub fn walk(
     settled: bool,
     back: bool,
@@ -35,7 +36,7 @@ pub fn walk(
     work: &mut [u32],
     marks: &mut [u8],
 ) -> Walked
-    ensures { λ r. ⌜ (Begun (now (closed .entry)) room start (now (work .entry)) (now (marks .entry)) → Walking mask (now (closed .entry)) convention back room (walk (turnKept settled mask (now (closed .entry)) convention back pace seed exit) room 876216 1 (held back start (now (work .entry)) (now (marks .entry)))) r (now (work .exit)) (now (marks .exit))) ⌝ }
+    ensures { λ r. ⌜ (Begun (now (closed .entry)) room start (now (work .entry)) (now (marks .entry)) → Walking mask (now (closed .entry)) convention back room (walk (turnKept settled mask (now (closed .entry)) convention back pace seed exit) room lastTry 1 (held back start (now (work .entry)) (now (marks .entry)))) r (now (work .exit)) (now (marks .exit))) ⌝ }
 {
     let way = search::convention_on(convention, mask, closed);
     let mut n = start;
@@ -47,7 +48,7 @@ pub fn walk(
         to: 0,
     };
     let mut newest = lists::newest(back, n, work);
-    while k <= 876216 {
+    while k <= span::LAST {
         let t = candidates::try_candidate(
             settled,
             back,

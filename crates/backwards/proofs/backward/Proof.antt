@@ -6,7 +6,7 @@ use Rattle.working.specs.Paces.{pace-checked}
 use Rattle.backwards.proofs.Backing.{begun-is}
 use mathlib.Core.Path.{_∙_}
 use Rattle.steps.specs.Fewer.{keptBackward}
-use Rattle.backwards.specs.Chains.{filled-ends, filled-makes}
+use Rattle.working.specs.After.{filled-ends, filled-makes}
 use borrow.Author.Needs.{needs}
 use Rattle.backwards.proofs.backward.Statement.{statement}
 use Rattle.backwards.proofs.backward.Tie as tie

@@ -3,13 +3,13 @@
 use Rattle.working.specs.Held.{begun-of}
 use Rattle.backwards.proofs.Backing.{back-end-seed}
 use Rattle.steps.specs.Fewer.{keptFrom}
-use Rattle.backwards.specs.Chains.{walking-as, walked-stands, walked-ends, walked-makes, generates-as, loop-is}
+use Rattle.working.specs.After.{walking-as, walked-stands, walked-ends, walked-makes, generates-as, loop-is}
 use borrow.Author.Needs.{needs}
 use Rattle.backwards.proofs.backward_from.Statement.{statement}
 use Rattle.backwards.proofs.backward_from.Tie as tie
 use Rattle.backwards.proofs.backward_from.Reads as reads
 use Rattle.backwards.proofs.backward_from.Lts as lts
-use Rattle.backwards.proofs.anchor_or.Reads as anchor-or-reads
+use Rattle.steps.proofs.seeds.anchor_or.Reads as anchor-or-reads
 use Rattle.backwards.proofs.ending.backward_end.Reads as backward-end-reads
 use Rattle.working.proofs.walks.walk.Reads as walk-reads
 use Rattle.steps.proofs.seeds.seed_of.Reads as seed-of-reads

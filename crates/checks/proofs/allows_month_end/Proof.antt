@@ -1,103 +1,22 @@
 -- `checks::allows_month_end` meets its contract.
 -- Assumes nothing.
+use mathlib.Core.Path.{refl}
+use mathlib.Core.Bool.{true, false}
+use denote.Enum.Declared.{tagOf}
+use Rattle.steps.specs.Rules.{rules, ruleNumber, oneOf}
+use Rattle.steps.specs.RuleLaws.{agree, keep, keysOf, tagsAre, told}
 use Rattle.steps.specs.Table.{monthendAllowed}
-use borrow.Author.Needs.{needs}
+use Rattle.steps.proofs.Rule.{the-type}
 use Rattle.checks.proofs.allows_month_end.Statement.{statement}
 use Rattle.checks.proofs.allows_month_end.Tie as tie
-use Rattle.checks.proofs.allows_month_end.Reads as reads
-use Rattle.checks.proofs.allows_month_end.Lts as lts
-
-enum-told : tie.Need-enum-told
-enum-told c = search needs
-
-enum-told-2 : tie.Need-enum-told-2
-enum-told-2 c = search needs
-
-enum-told-3 : tie.Need-enum-told-3
-enum-told-3 c = search needs
-
-enum-told-4 : tie.Need-enum-told-4
-enum-told-4 c = search needs
-
-enum-told-5 : tie.Need-enum-told-5
-enum-told-5 c = search needs
-
-enum-told-6 : tie.Need-enum-told-6
-enum-told-6 c = search needs
-
-enum-told-7 : tie.Need-enum-told-7
-enum-told-7 c = search needs
-
-enum-told-8 : tie.Need-enum-told-8
-enum-told-8 c = search needs
-
-enum-told-9 : tie.Need-enum-told-9
-enum-told-9 c = search needs
-
-enum-told-10 : tie.Need-enum-told-10
-enum-told-10 c = search needs
 
 returns : tie.Need-returns
-unfolding monthendAllowed
-returns c = cc
+unfolding monthendAllowed oneOf ruleNumber rules agree keep keysOf tagsAre
+returns c = told (tagOf the-type) refl monthendAllowed true (c .before .args .rule) (c .match .keys1)
 
 returns-2 : tie.Need-returns-2
-unfolding monthendAllowed
-returns-2 c = cc
-
-returns-3 : tie.Need-returns-3
-unfolding monthendAllowed
-returns-3 c = cc
-
-returns-4 : tie.Need-returns-4
-unfolding monthendAllowed
-returns-4 c = cc
-
-returns-5 : tie.Need-returns-5
-unfolding monthendAllowed
-returns-5 c = cc
-
-returns-6 : tie.Need-returns-6
-unfolding monthendAllowed
-returns-6 c = cc
-
-returns-7 : tie.Need-returns-7
-unfolding monthendAllowed
-returns-7 c = cc
-
-returns-8 : tie.Need-returns-8
-unfolding monthendAllowed
-returns-8 c = cc
-
-returns-9 : tie.Need-returns-9
-unfolding monthendAllowed
-returns-9 c = cc
-
-returns-10 : tie.Need-returns-10
-unfolding monthendAllowed
-returns-10 c = cc
+unfolding monthendAllowed oneOf ruleNumber rules agree keep keysOf tagsAre
+returns-2 c = told (tagOf the-type) refl monthendAllowed false (c .before .args .rule) (c .match .keys2)
 
 pub allows-month-end-spec : {M : Type 1} → statement M
-allows-month-end-spec =
-    tie.close
-    (tie.spec
-    enum-told
-    enum-told-2
-    enum-told-3
-    enum-told-4
-    enum-told-5
-    enum-told-6
-    enum-told-7
-    enum-told-8
-    enum-told-9
-    enum-told-10
-    returns
-    returns-2
-    returns-3
-    returns-4
-    returns-5
-    returns-6
-    returns-7
-    returns-8
-    returns-9
-    returns-10)
+allows-month-end-spec = tie.close (tie.spec returns returns-2)

@@ -1,6 +1,6 @@
 -- `checks::first_refusal` meets its contract.
 -- Assumes nothing.
-use Rattle.steps.specs.Rows.{firstRows}
+use Rattle.steps.specs.Table.{firstRows}
 use borrow.Author.Needs.{needs}
 use Rattle.checks.proofs.first_refusal.Statement.{statement}
 use Rattle.checks.proofs.first_refusal.Tie as tie

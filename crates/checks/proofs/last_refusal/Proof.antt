@@ -1,6 +1,6 @@
 -- `checks::last_refusal` meets its contract.
 -- Assumes nothing.
-use Rattle.steps.specs.Rows.{lastRows}
+use Rattle.steps.specs.Table.{lastRows}
 use borrow.Author.Needs.{needs}
 use Rattle.checks.proofs.last_refusal.Statement.{statement}
 use Rattle.checks.proofs.last_refusal.Tie as tie

@@ -1,32 +1,40 @@
 -- `checks::refusal_under` meets its contract.
 -- Assumes nothing.
-use Rattle.checks.proofs.Ways.{under-rule}
+use Rattle.steps.specs.Table.{rowsUnder}
+use Rattle.checks.proofs.Ways.{rows}
 use borrow.Author.Needs.{needs}
 use Rattle.checks.proofs.refusal_under.Statement.{statement}
 use Rattle.checks.proofs.refusal_under.Tie as tie
 use Rattle.checks.proofs.refusal_under.Reads as reads
 use Rattle.checks.proofs.refusal_under.Lts as lts
+use Rattle.checks.proofs.denies_month_end.Reads as denies-month-end-reads
 use Rattle.checks.proofs.first_refusal.Reads as first-refusal-reads
 use Rattle.checks.proofs.last_refusal.Reads as last-refusal-reads
-use Rattle.checks.proofs.monthend_refusal.Reads as monthend-refusal-reads
 
 first-refusal-requires : tie.Need-first-refusal-requires
 first-refusal-requires c κs = search needs
 
 returns : tie.Need-returns
-returns c = search under-rule
+unfolding rowsUnder
+returns c = search rows
 
 last-refusal-requires : tie.Need-last-refusal-requires
 last-refusal-requires c κs = search needs
 
 returns-2 : tie.Need-returns-2
-returns-2 c = search under-rule
+unfolding rowsUnder
+returns-2 c = search rows
 
-monthend-refusal-requires : tie.Need-monthend-refusal-requires
-monthend-refusal-requires c κs = search needs
+denies-month-end-requires : tie.Need-denies-month-end-requires
+denies-month-end-requires c κs = search needs
 
 returns-3 : tie.Need-returns-3
-returns-3 c = search under-rule
+unfolding rowsUnder
+returns-3 c = search rows
+
+returns-4 : tie.Need-returns-4
+unfolding rowsUnder
+returns-4 c = search rows
 
 pub refusal-under-spec : {M : Type 1} → statement M
 refusal-under-spec =
@@ -36,5 +44,6 @@ refusal-under-spec =
     returns
     last-refusal-requires
     returns-2
-    monthend-refusal-requires
-    returns-3)
+    denies-month-end-requires
+    returns-3
+    returns-4)

@@ -8,7 +8,7 @@ use Rattle.finish.proofs.adjust_and_merge.Reads as reads
 use Rattle.finish.proofs.adjust_and_merge.Lts as lts
 use Rattle.finish.proofs.adjusting.adjust_dates.Reads as adjust-dates-reads
 use Rattle.finish.proofs.merge_and_copy.Reads as merge-and-copy-reads
-use Rattle.finish.proofs.refused.Reads as refused-reads
+use Rattle.steps.proofs.refused.Reads as refused-reads
 
 adjust-dates-requires : tie.Need-adjust-dates-requires
 adjust-dates-requires c κs = search needs

@@ -9,7 +9,7 @@ use Rattle.finish.proofs.complete.Reads as reads
 use Rattle.finish.proofs.complete.Lts as lts
 use Rattle.finish.proofs.complete_lent.Reads as complete-lent-reads
 use Rattle.finish.proofs.lent_refusal.Reads as lent-refusal-reads
-use Rattle.finish.proofs.refused.Reads as refused-reads
+use Rattle.steps.proofs.refused.Reads as refused-reads
 
 lent-refusal-requires : tie.Need-lent-refusal-requires
 lent-refusal-requires c κs = search needs

@@ -8,7 +8,7 @@ use Rattle.finish.proofs.complete_lent.Reads as reads
 use Rattle.finish.proofs.complete_lent.Lts as lts
 use Rattle.finish.proofs.adjusting.third_wednesdays.Reads as third-wednesdays-reads
 use Rattle.finish.proofs.adjust_and_merge.Reads as adjust-and-merge-reads
-use Rattle.finish.proofs.refused.Reads as refused-reads
+use Rattle.steps.proofs.refused.Reads as refused-reads
 use Rattle.steps.proofs.rules.rule_in_force.Reads as rule-in-force-reads
 
 rule-in-force-requires : tie.Need-rule-in-force-requires

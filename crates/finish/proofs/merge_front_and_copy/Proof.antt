@@ -7,7 +7,7 @@ use Rattle.finish.proofs.merge_front_and_copy.Tie as tie
 use Rattle.finish.proofs.merge_front_and_copy.Reads as reads
 use Rattle.finish.proofs.merge_front_and_copy.Lts as lts
 use Rattle.finish.proofs.copy_out.Reads as copy-out-reads
-use Rattle.finish.proofs.refused.Reads as refused-reads
+use Rattle.steps.proofs.refused.Reads as refused-reads
 use Rattle.finish.proofs.merges.merge_front.Reads as merge-front-reads
 
 merge-front-requires : tie.Need-merge-front-requires

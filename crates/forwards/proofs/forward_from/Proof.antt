@@ -4,13 +4,13 @@ use Rattle.working.specs.Held.{begun-of}
 use Rattle.working.specs.Paces.{pace-checked}
 use mathlib.Core.Path.{refl, _∙_}
 use Rattle.steps.specs.Generate.{forwardFrom}
-use Rattle.backwards.specs.Chains.{walking-as, walked-stands, walked-ends, walked-makes, plain-loop-is}
+use Rattle.working.specs.After.{walking-as, walked-stands, walked-ends, walked-makes, plain-loop-is}
 use borrow.Author.Needs.{needs}
 use Rattle.forwards.proofs.forward_from.Statement.{statement}
 use Rattle.forwards.proofs.forward_from.Tie as tie
 use Rattle.forwards.proofs.forward_from.Reads as reads
 use Rattle.forwards.proofs.forward_from.Lts as lts
-use Rattle.backwards.proofs.anchor_or.Reads as anchor-or-reads
+use Rattle.steps.proofs.seeds.anchor_or.Reads as anchor-or-reads
 use Rattle.working.proofs.candidates.pace_of.Reads as pace-of-reads
 use Rattle.forwards.proofs.closing.forward_end.Reads as forward-end-reads
 use Rattle.working.proofs.walks.walk.Reads as walk-reads

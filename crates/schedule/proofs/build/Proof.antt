@@ -7,7 +7,7 @@ use Rattle.schedule.proofs.build.Statement.{statement}
 use Rattle.schedule.proofs.build.Tie as tie
 use Rattle.schedule.proofs.build.Reads as reads
 use Rattle.schedule.proofs.build.Lts as lts
-use Rattle.finish.proofs.refused.Reads as refused-reads
+use Rattle.steps.proofs.refused.Reads as refused-reads
 use Rattle.schedule.proofs.least.Reads as least-reads
 use Rattle.schedule.proofs.run.Reads as run-reads
 use Rattle.checks.proofs.input_refusal.Reads as input-refusal-reads

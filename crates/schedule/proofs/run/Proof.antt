@@ -9,7 +9,7 @@ use Rattle.schedule.proofs.run.Tie as tie
 use Rattle.schedule.proofs.run.Reads as reads
 use Rattle.schedule.proofs.run.Lts as lts
 use Rattle.schedule.proofs.finish_part.Reads as finish-part-reads
-use Rattle.finish.proofs.refused.Reads as refused-reads
+use Rattle.steps.proofs.refused.Reads as refused-reads
 use Rattle.schedule.proofs.generating.generate.Reads as generate-reads
 
 generate-requires : tie.Need-generate-requires

@@ -8,7 +8,7 @@ use Rattle.backwards.proofs.beginning.put_penultimate.Reads as reads
 use Rattle.backwards.proofs.beginning.put_penultimate.Lts as lts
 use Rattle.working.proofs.candidates.candidate.Reads as candidate-reads
 use Rattle.working.proofs.lists.put.Reads as put-reads
-use Rattle.working.proofs.lists.same_flag.Reads as same-flag-reads
+use Rattle.steps.proofs.flags.same_flag.Reads as same-flag-reads
 
 returns : tie.Need-returns
 returns c = λ p some. penultimate-absent _ _ p some _ (c .if1 .taken)

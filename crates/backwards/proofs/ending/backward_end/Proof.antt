@@ -1,7 +1,7 @@
 -- `backwards::ending::backward_end` meets its contract.
 -- Assumes nothing.
 use Rattle.steps.specs.Generate.{backwardEnd}
-use Rattle.backwards.specs.Chains.{added-ends}
+use Rattle.working.specs.After.{added-ends}
 use Rattle.backwards.proofs.Backing.{back-made}
 use borrow.Author.Needs.{needs}
 use Rattle.backwards.proofs.ending.backward_end.Statement.{statement}

@@ -3,7 +3,7 @@
 use Rattle.working.specs.Held.{begun-of}
 use mathlib.Core.Path.{refl}
 use Rattle.steps.specs.Generate.{ended}
-use Rattle.backwards.specs.Chains.{added-sits, added-stop, added-on}
+use Rattle.working.specs.After.{added-sits, added-stop, added-on}
 use borrow.Author.Needs.{needs}
 use Rattle.backwards.proofs.ending.end.Statement.{statement}
 use Rattle.backwards.proofs.ending.end.Tie as tie

@@ -1,7 +1,6 @@
 -- `calendar::search::convention_on` meets its contract.
 -- Assumes nothing.
-use Rattle.calendar.specs.Stays.{all-same}
-use native.Mathlib.Omega.{arith}
+use Rattle.calendar.specs.Always.{on-open, on-listed, on-masked}
 use borrow.Author.Needs.{needs}
 use Rattle.calendar.proofs.search.convention_on.Statement.{statement}
 use Rattle.calendar.proofs.search.convention_on.Tie as tie
@@ -9,13 +8,13 @@ use Rattle.calendar.proofs.search.convention_on.Reads as reads
 use Rattle.calendar.proofs.search.convention_on.Lts as lts
 
 returns : tie.Need-returns
-returns c = all-same _ _ (omega arith) (omega arith) _ _
+returns c = search (on-open, needs)
 
 returns-2 : tie.Need-returns-2
-returns-2 c = search needs
+returns-2 c = search (on-listed, needs)
 
 returns-3 : tie.Need-returns-3
-returns-3 c = search needs
+returns-3 c = search (on-masked, needs)
 
 pub convention-on-spec : {M : Type 1} → statement M
 convention-on-spec = tie.close (tie.spec returns returns-2 returns-3)

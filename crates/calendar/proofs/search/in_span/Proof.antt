@@ -1,5 +1,6 @@
 -- `calendar::search::in_span` meets its contract.
 -- Assumes nothing.
+use Rattle.date.specs.Date.{SPAN-FIRST}
 use Rattle.calendar.specs.Adjust.{inSpan}
 use borrow.Author.Tests.{le-leb, lt-leb}
 use native.Mathlib.Omega.{arith}
@@ -8,11 +9,11 @@ use Rattle.calendar.proofs.search.in_span.Tie as tie
 
 returns : tie.Need-returns
 unfolding inSpan
-returns c = let n = c .before .args .day in simp (le-leb 657072 n (omega arith))
+returns c = let n = c .before .args .day in simp (le-leb SPAN-FIRST n (omega arith))
 
 returns-2 : tie.Need-returns-2
 unfolding inSpan
-returns-2 c = let n = c .before .args .day in simp (lt-leb 657072 n (omega arith))
+returns-2 c = let n = c .before .args .day in simp (lt-leb SPAN-FIRST n (omega arith))
 
 pub in-span-spec : {M : Type 1} → statement M
 in-span-spec = tie.close (tie.spec returns returns-2)

@@ -2,13 +2,13 @@
 -- Assumes nothing.
 use Rattle.crossing.specs.Requests.{requestOf}
 use Rattle.crossing.specs.Calls.{same-count}
-use Rattle.report.specs.Handed.{reported-as}
+use Rattle.recorded.specs.Handed.{reported-as}
 use borrow.Author.Needs.{needs}
 use Rattle.capi.proofs.builds.heronspan_build.Statement.{statement}
 use Rattle.capi.proofs.builds.heronspan_build.Tie as tie
 use Rattle.capi.proofs.builds.heronspan_build.Reads as reads
 use Rattle.capi.proofs.builds.heronspan_build.Lts as lts
-use Rattle.report.proofs.build.Reads as build-reads
+use Rattle.recorded.proofs.build.Reads as build-reads
 use Rattle.crossing.proofs.requests.request_of.Reads as request-of-reads
 
 request-of-requires : tie.Need-request-of-requires

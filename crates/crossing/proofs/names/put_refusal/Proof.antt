@@ -1,36 +1,46 @@
 -- `crossing::names::put_refusal` meets its contract.
 -- Assumes nothing.
-use mathlib.Core.Path.{refl, _∙_}
-use Rattle.crossing.specs.Names.{names, letters, joined}
-use Rattle.crossing.specs.Calls.{spelled-as, same-name}
+use mathlib.Core.Path.{sym, _∙_}
+use lib.Seq.{length-take-le}
 use borrow.Author.Needs.{needs}
+use Rattle.crossing.specs.Calls.{spelled-as, same-name}
 use Rattle.crossing.proofs.names.put_refusal.Statement.{statement}
 use Rattle.crossing.proofs.names.put_refusal.Tie as tie
 use Rattle.crossing.proofs.names.put_refusal.Reads as reads
 use Rattle.crossing.proofs.names.put_refusal.Lts as lts
-use Rattle.crossing.proofs.names.put_row.Reads as put-row-reads
+use Rattle.crossing.proofs.names.put_name.Reads as put-name-reads
 use Rattle.crossing.proofs.names.row_of.Reads as row-of-reads
 
 row-of-requires : tie.Need-row-of-requires
 row-of-requires c κs = search needs
 
-slice-aggregate-put-row : tie.Need-slice-aggregate-put-row
-slice-aggregate-put-row c = search needs
+array-share-prefix-name : tie.Need-array-share-prefix-name
+array-share-prefix-name c = c .before .row-of .ensures .within
 
-put-row-requires : tie.Need-put-row-requires
-unfolding names letters joined
-put-row-requires c κs = (refl, c .before .before .row-of .ensures .within)
+slice-aggregate-put-name : tie.Need-slice-aggregate-put-name
+slice-aggregate-put-name c = sym (length-take-le _ _ (c .before .before .row-of .ensures .within))
+
+put-name-requires : tie.Need-put-name-requires
+put-name-requires c κs =
+    let row = c .before .before .before .row-of in
+    rw (length-take-le _ _ (row .ensures .within)) (row .ensures .narrow)
 
 same-length : tie.Need-same-length
 same-length c = search needs
 
 returns : tie.Need-returns
 returns c =
-    let put = c .before .before .put-row in
-    let start = c .before .before .before .before .before .before .before in
-    spelled-as _ _ (put .ok) (c .before .before .before .before .before .row-of .ensures .name ∙ same-name (start .args .answer) (start .fits .answer)) (put .ensures)
+    let put = c .before .before .put-name in
+    let start = c .before .before .before .before .before .before .before .before in
+    spelled-as _ _ (put .ok) (c .before .before .before .before .before .before .row-of .ensures .name ∙ same-name (start .args .answer) (start .fits .answer)) (put .ensures)
 
 pub put-refusal-spec : {M : Type 1} → statement M
 put-refusal-spec =
     tie.close
-    (tie.spec row-of-requires slice-aggregate-put-row put-row-requires same-length returns)
+    (tie.spec
+    row-of-requires
+    array-share-prefix-name
+    slice-aggregate-put-name
+    put-name-requires
+    same-length
+    returns)

@@ -1,28 +1,74 @@
 -- `crossing::names::row_of` meets its contract.
 -- Assumes nothing.
-use Rattle.crossing.proofs.Rows.{next-fits, counted-fits, counted-cast, row-given, row-beyond, row-none}
+use Prim.Native.Nat.{_-_, _≤_}
+use mathlib.Core.Path.{_≡_, refl}
+use native.Mathlib.Omega.{arith}
+use lib.ListN.{length, drop}
+use mir.Syntax.{w64}
+use mir.Val.{toZ}
+use borrow.Author.Needs.{needs}
+use Rattle.refusal.specs.Refusals.{refusals, letters, spaces, rowOf, rowsOf}
+use Rattle.crossing.specs.Names.{nameOf}
+use Rattle.crossing.proofs.Naming.{namedIn, in-all, row-hit, row-missed, row-none}
 use Rattle.crossing.proofs.names.row_of.Statement.{statement}
 use Rattle.crossing.proofs.names.row_of.Tie as tie
 use Rattle.crossing.proofs.names.row_of.Reads as reads
 use Rattle.crossing.proofs.names.row_of.Lts as lts
+use Rattle.crossing.proofs.answers.minus.Reads as minus-reads
 
-add-row : tie.Need-add-row
-add-row c = next-fits (c .before .args .answer) (c .before .fits .answer) (c .if1 .taken)
+abbrev Inv-loop : tie.InvT-loop
+Inv-loop answer k₀ k = (k ≤ length refusals) × (namedIn (drop k refusals) (toZ w64 answer) ≡ nameOf (toZ w64 answer))
 
-sub-row : tie.Need-sub-row
-sub-row c = counted-fits (c .before .args .answer) (c .before .fits .answer) (c .if1 .taken)
+abbrev μ-loop : tie.MeasureT-loop
+μ-loop answer k₀ k = length refusals - k
 
-cast-result : tie.Need-cast-result
-cast-result c = counted-cast (c .before .before .args .answer) (c .before .before .fits .answer) (c .before .if1 .taken)
+loop-holds : tie.Need-loop-holds Inv-loop μ-loop
+loop-holds c = (omega arith, in-all _)
 
-returns : tie.Need-returns
-returns c = row-given (c .before .before .args .answer) (c .before .before .fits .answer) (c .before .if1 .taken) (c .if2 .taken)
+mul-row : tie.Need-mul-row Inv-loop μ-loop
+mul-row c = search needs
 
-returns-2 : tie.Need-returns-2
-returns-2 c = row-beyond (c .before .before .args .answer) (c .before .before .fits .answer) (c .before .if1 .taken) (c .if2 .left)
+array-copy-out-row : tie.Need-array-copy-out-row Inv-loop μ-loop
+array-copy-out-row c = search needs
 
-returns-3 : tie.Need-returns-3
-returns-3 c = row-none (c .before .args .answer) (c .before .fits .answer) (c .if1 .left)
+minus-requires : tie.Need-minus-requires Inv-loop μ-loop
+minus-requires c κs = search needs
+
+returns : tie.Need-returns Inv-loop μ-loop
+unfolding refusals rowsOf rowOf letters spaces
+returns c =
+    let at = c .before .before .before .before in
+    row-hit _ (at .loop .k) (c .before .before .before .loop-test .taken) _ _ (at .before .fits .answer) (c .before .minus .ok) (c .before .minus .ensures) (at .loop .inv .1) (c .if1 .taken)
+
+add-k : tie.Need-add-k Inv-loop μ-loop
+add-k c = search needs
+
+loop-less : tie.Need-loop-less Inv-loop μ-loop
+unfolding refusals
+loop-less c = omega arith
+
+loop-again : tie.Need-loop-again Inv-loop μ-loop
+unfolding refusals rowsOf rowOf letters spaces
+loop-again c =
+    let at = c .before .before .before .before in
+    (omega arith, row-missed _ (at .loop .k) (c .before .before .before .loop-test .taken) _ _ (at .before .fits .answer) (c .before .minus .ok) (c .before .minus .ensures) (at .loop .inv .1) (c .if1 .left))
+
+returns-2 : tie.Need-returns-2 Inv-loop μ-loop
+unfolding refusals
+returns-2 c = row-none _ _ _ (c .before .before .fits .answer) refl (c .loop-test .left) (c .before .loop .inv .1)
 
 pub row-of-spec : {M : Type 1} → statement M
-row-of-spec = tie.close (tie.spec add-row sub-row cast-result returns returns-2 returns-3)
+row-of-spec =
+    tie.close
+    (tie.spec
+    Inv-loop
+    μ-loop
+    loop-holds
+    mul-row
+    array-copy-out-row
+    minus-requires
+    returns
+    add-k
+    loop-less
+    loop-again
+    returns-2)

@@ -8,8 +8,14 @@ use Rattle.date.proofs.span.within.Tie as tie
 use Rattle.date.proofs.span.within.Reads as reads
 use Rattle.date.proofs.span.within.Lts as lts
 
-cast-t4 : tie.Need-cast-t4
-cast-t4 c = search needs
+cast-if1 : tie.Need-cast-if1
+cast-if1 c = search needs
+
+cast-if2 : tie.Need-cast-if2
+cast-if2 c = search needs
+
+cast-t6 : tie.Need-cast-t6
+cast-t6 c = search needs
 
 returns : tie.Need-returns
 unfolding dated
@@ -24,4 +30,4 @@ unfolding dated
 returns-3 c = search (span-early, span-late, span-in, needs)
 
 pub within-spec : {M : Type 1} → statement M
-within-spec = tie.close (tie.spec cast-t4 returns returns-2 returns-3)
+within-spec = tie.close (tie.spec cast-if1 cast-if2 cast-t6 returns returns-2 returns-3)

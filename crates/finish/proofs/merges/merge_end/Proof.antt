@@ -6,7 +6,7 @@ use Rattle.finish.proofs.merges.merge_end.Statement.{statement}
 use Rattle.finish.proofs.merges.merge_end.Tie as tie
 use Rattle.finish.proofs.merges.merge_end.Reads as reads
 use Rattle.finish.proofs.merges.merge_end.Lts as lts
-use Rattle.working.proofs.lists.same_flag.Reads as same-flag-reads
+use Rattle.steps.proofs.flags.same_flag.Reads as same-flag-reads
 
 returns : tie.Need-returns
 returns c = search ends

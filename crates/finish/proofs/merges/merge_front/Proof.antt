@@ -6,7 +6,7 @@ use Rattle.finish.proofs.merges.merge_front.Statement.{statement}
 use Rattle.finish.proofs.merges.merge_front.Tie as tie
 use Rattle.finish.proofs.merges.merge_front.Reads as reads
 use Rattle.finish.proofs.merges.merge_front.Lts as lts
-use Rattle.working.proofs.lists.same_flag.Reads as same-flag-reads
+use Rattle.steps.proofs.flags.same_flag.Reads as same-flag-reads
 
 returns : tie.Need-returns
 returns c = search fronts

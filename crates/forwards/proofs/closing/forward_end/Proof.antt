@@ -1,7 +1,7 @@
 -- `forwards::closing::forward_end` meets its contract.
 -- Assumes nothing.
 use Rattle.steps.specs.Generate.{forwardEnd}
-use Rattle.backwards.specs.Chains.{filled-ends}
+use Rattle.working.specs.After.{filled-ends}
 use Rattle.forwards.proofs.Forthing.{forth-made}
 use borrow.Author.Needs.{needs}
 use Rattle.forwards.proofs.closing.forward_end.Statement.{statement}

@@ -2,7 +2,7 @@
 -- Assumes nothing.
 use Rattle.working.specs.Held.{begun-of}
 use Rattle.steps.specs.Generate.{shut}
-use Rattle.backwards.specs.Chains.{added-sits}
+use Rattle.working.specs.After.{added-sits}
 use Rattle.forwards.proofs.Forthing.{shut-stop, shut-on}
 use borrow.Author.Needs.{needs}
 use Rattle.forwards.proofs.closing.shut.Statement.{statement}

@@ -8,7 +8,7 @@ use Rattle.opening.proofs.second.put_first.Tie as tie
 use Rattle.opening.proofs.second.put_first.Reads as reads
 use Rattle.opening.proofs.second.put_first.Lts as lts
 use Rattle.working.proofs.lists.newest.Reads as newest-reads
-use Rattle.working.proofs.lists.same_flag.Reads as same-flag-reads
+use Rattle.steps.proofs.flags.same_flag.Reads as same-flag-reads
 use Rattle.opening.proofs.second.put_seed.Reads as put-seed-reads
 use Rattle.opening.proofs.second.tenor_on.Reads as tenor-on-reads
 

@@ -1,6 +1,6 @@
 -- `request::writing::convention_number` meets its contract.
 -- Assumes nothing.
-use Rattle.request.specs.Encode.{conventionNumber}
+use Rattle.calendar.specs.Adjust.{conventionNumber}
 use borrow.Author.Needs.{needs}
 use Rattle.request.proofs.writing.convention_number.Statement.{statement}
 use Rattle.request.proofs.writing.convention_number.Tie as tie

@@ -3,7 +3,8 @@
 use mathlib.Core.Path.{refl}
 use mathlib.Core.List.{[], _∷_, _++_}
 use Rattle.steps.specs.Rules.{ruleNumber}
-use Rattle.request.specs.Encode.{conventionNumber, bit, spelt}
+use Rattle.calendar.specs.Adjust.{conventionNumber}
+use Rattle.request.specs.Encode.{bit, spelt}
 use Rattle.request.proofs.PutWays.{byte-as, laid-then}
 use borrow.Author.Needs.{needs}
 use Rattle.request.proofs.writing.put_choices.Statement.{statement}
@@ -13,7 +14,7 @@ use Rattle.request.proofs.writing.put_choices.Lts as lts
 use Rattle.request.proofs.writing.bit_of.Reads as bit-of-reads
 use Rattle.request.proofs.writing.convention_number.Reads as convention-number-reads
 use Rattle.request.proofs.writing.put_byte.Reads as put-byte-reads
-use Rattle.crossing.proofs.rule_number.Reads as rule-number-reads
+use Rattle.steps.proofs.rules.rule_number.Reads as rule-number-reads
 
 rule-number-requires : tie.Need-rule-number-requires
 rule-number-requires c κs = search needs

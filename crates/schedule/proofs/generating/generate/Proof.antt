@@ -1,6 +1,6 @@
 -- `schedule::generating::generate` meets its contract.
 -- Assumes nothing.
-use Rattle.backwards.specs.Chains.{generates-as}
+use Rattle.working.specs.After.{generates-as}
 use Rattle.schedule.proofs.Building.{generate-zero, generate-back, generate-forth}
 use borrow.Author.Needs.{needs}
 use Rattle.schedule.proofs.generating.generate.Statement.{statement}

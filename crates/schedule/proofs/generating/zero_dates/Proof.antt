@@ -1,7 +1,7 @@
 -- `schedule::generating::zero_dates` meets its contract.
 -- Assumes nothing.
 use Rattle.steps.specs.Generate.{zeroDates}
-use Rattle.backwards.specs.Chains.{filled-ends}
+use Rattle.working.specs.After.{filled-ends}
 use Rattle.schedule.proofs.Building.{zero-size, zero-made}
 use borrow.Author.Needs.{needs}
 use Rattle.schedule.proofs.generating.zero_dates.Statement.{statement}

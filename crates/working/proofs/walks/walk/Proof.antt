@@ -1,9 +1,10 @@
 use mathlib.Core.Path.{_≡_, refl, _∙_}
-use Prim.Native.Nat.{_-_, _≤_, _<_}
+use Prim.Native.Nat.{suc, _-_, _≤_, _<_}
 use native.Mathlib.Omega.{arith}
 use lib.ListN.{length}
+use Rattle.date.specs.Date.{SPAN-LAST}
 use Rattle.steps.specs.Fewer.{turnKept}
-use Rattle.steps.specs.Generate.{newest, walk}
+use Rattle.steps.specs.Generate.{newest, lastTry, walk}
 use Rattle.working.specs.Part.{Begun, held}
 use borrow.Author.Needs.{needs}
 use Rattle.working.proofs.Walking.{Going, going-start, walk-stop, walk-past, walk-skip, walk-full, walk-newest, walk-keep, walk-out, walk-alike}
@@ -12,17 +13,18 @@ use Rattle.working.proofs.walks.walk.Tie as tie
 use Rattle.working.proofs.walks.walk.Reads as reads
 use Rattle.working.proofs.walks.walk.Lts as lts
 use Rattle.working.proofs.candidates.try_candidate.Reads as try-candidate-reads
+use Rattle.calendar.specs.Always.{on-as}
 use Rattle.calendar.proofs.search.convention_on.Reads as convention-on-reads
 use Rattle.working.proofs.lists.newest.Reads as newest-reads
 use Rattle.working.proofs.lists.put.Reads as put-reads
 
 abbrev Inv-loop : tie.InvT-loop
 Inv-loop settled back pace seed exit mask closed start room work₀ marks₀ way n₀ k₀ front₀ near₀ day₀ work marks n k front near day =
-    (k ≤ 876217) × (length work ≡ length work₀) × (length marks ≡ length marks₀) × (Begun closed room start work₀ marks₀ → Going settled mask closed way back pace seed exit room (walk (turnKept settled mask closed way back pace seed exit) room 876216 1 (held back start work₀ marks₀)) work marks n k front near) × (Begun closed room start work₀ marks₀ → length work ≡ 4096 → n < 4097 → day ≡ newest (held back n work work))
+    (k ≤ suc SPAN-LAST) × (length work ≡ length work₀) × (length marks ≡ length marks₀) × (Begun closed room start work₀ marks₀ → Going settled mask closed way back pace seed exit room (walk (turnKept settled mask closed way back pace seed exit) room lastTry 1 (held back start work₀ marks₀)) work marks n k front near) × (Begun closed room start work₀ marks₀ → length work ≡ 4096 → n < 4097 → day ≡ newest (held back n work work))
 
 abbrev μ-loop : tie.MeasureT-loop
 μ-loop settled back pace seed exit mask closed start room work₀ marks₀ way n₀ k₀ front₀ near₀ day₀ work marks n k front near day =
-    876217 - k
+    suc SPAN-LAST - k
 
 loop-holds : tie.Need-loop-holds Inv-loop μ-loop
 loop-holds c = (omega arith, refl, refl, λ b. going-start _ _ _ _ _ _ _ _ _ _ _ _ b, λ b. c .newest .ensures)
@@ -50,7 +52,7 @@ returns c = λ b.
     let t = c .before .before .before in
     let l = t .before in
     let way = l .before .before .before .before in
-    walk-alike _ _ _ _ (way .convention-on .ensures) _ _ _ _ _ _ _ _ _ _ _ _ (walk-stop (l .before .loop .inv .3 b) (l .loop-test .taken) _ (l .before .loop .inv .4 b) _ (t .try-candidate .ensures) (c .before .t .given .0 .0) (c .before .t .given .1))
+    walk-alike _ _ _ _ (on-as _ _ _ _ (way .convention-on .ensures)) _ _ _ _ _ _ _ _ _ _ _ _ (walk-stop (l .before .loop .inv .3 b) (l .loop-test .taken) _ (l .before .loop .inv .4 b) _ (t .try-candidate .ensures) (c .before .t .given .0 .0) (c .before .t .given .1))
 
 enum-told : tie.Need-enum-told Inv-loop μ-loop
 enum-told c = search needs
@@ -66,7 +68,7 @@ returns-2 c = λ b.
     let t = c .before .before in
     let l = t .before in
     let way = l .before .before .before .before in
-    walk-alike _ _ _ _ (way .convention-on .ensures) _ _ _ _ _ _ _ _ _ _ _ _ (walk-past (l .before .loop .inv .3 b) (l .loop-test .taken) _ (l .before .loop .inv .4 b) _ (t .try-candidate .ensures) (c .enum-told .given .1))
+    walk-alike _ _ _ _ (on-as _ _ _ _ (way .convention-on .ensures)) _ _ _ _ _ _ _ _ _ _ _ _ (walk-past (l .before .loop .inv .3 b) (l .loop-test .taken) _ (l .before .loop .inv .4 b) _ (t .try-candidate .ensures) (c .enum-told .given .1))
 
 enum-known-t-2 : tie.Need-enum-known-t-2 Inv-loop μ-loop
 enum-known-t-2 c = search needs
@@ -111,7 +113,7 @@ returns-3 c = λ b.
     let t = k .before .before in
     let l = t .before in
     let way = l .before .before .before .before in
-    walk-alike _ _ _ _ (way .convention-on .ensures) _ _ _ _ _ _ _ _ _ _ _ _ (walk-full (l .before .loop .inv .3 b) (l .loop-test .taken) _ (l .before .loop .inv .4 b) _ (t .try-candidate .ensures) _ _ _ (k .t3 .given .1) _ _ _ (p .put .ensures) (c .before .put2 .given .0 .0) (c .before .put2 .given .1))
+    walk-alike _ _ _ _ (on-as _ _ _ _ (way .convention-on .ensures)) _ _ _ _ _ _ _ _ _ _ _ _ (walk-full (l .before .loop .inv .3 b) (l .loop-test .taken) _ (l .before .loop .inv .4 b) _ (t .try-candidate .ensures) _ _ _ (k .t3 .given .1) _ _ _ (p .put .ensures) (c .before .put2 .given .0 .0) (c .before .put2 .given .1))
 
 enum-known-put-2 : tie.Need-enum-known-put-2 Inv-loop μ-loop
 enum-known-put-2 c = search needs
@@ -143,7 +145,7 @@ same-length-8 : tie.Need-same-length-8 Inv-loop μ-loop
 same-length-8 c = search needs
 
 returns-4 : tie.Need-returns-4 Inv-loop μ-loop
-returns-4 c = λ b. walk-alike _ _ _ _ (c .before .before .before .before .convention-on .ensures) _ _ _ _ _ _ _ _ _ _ _ _ (walk-out (c .before .loop .inv .3 b) (c .loop-test .left))
+returns-4 c = λ b. walk-alike _ _ _ _ (on-as _ _ _ _ (c .before .before .before .before .convention-on .ensures)) _ _ _ _ _ _ _ _ _ _ _ _ (walk-out (c .before .loop .inv .3 b) (c .loop-test .left))
 
 pub walk-spec : {M : Type 1} → statement M
 walk-spec =

@@ -1,0 +1,45 @@
+-- `reply::print_built` meets its contract.
+-- Assumes nothing.
+use lib.Seq.{length-take-le}
+use mathlib.Core.Path.{sym}
+use Rattle.reply.proofs.Ways.{put-refusal, put-schedule}
+use borrow.Author.Needs.{needs}
+use Rattle.reply.proofs.print_built.Statement.{statement}
+use Rattle.reply.proofs.print_built.Tie as tie
+
+refusal-requires : tie.Need-refusal-requires
+refusal-requires c κs = search needs
+
+same-length : tie.Need-same-length
+same-length c = search needs
+
+returns : tie.Need-returns
+returns c = put-refusal _ _ _ (c .before .before .before .before .if1 .taken) (c .before .before .refusal .ensures)
+
+cast-count : tie.Need-cast-count
+cast-count c = search needs
+
+slice-aggregate-schedule : tie.Need-slice-aggregate-schedule
+slice-aggregate-schedule c = sym (length-take-le (c .before .before .before .before .before .before .args .built .count) (c .before .before .before .before .before .before .args .dates .now) (c .before .before .before .before .before .before .pre))
+
+schedule-requires : tie.Need-schedule-requires
+schedule-requires c κs = search needs
+
+same-length-2 : tie.Need-same-length-2
+same-length-2 c = search needs
+
+returns-2 : tie.Need-returns-2
+returns-2 c = put-schedule _ _ _ (c .before .before .before .before .before .before .if1 .left) (c .before .before .schedule .ensures)
+
+pub print-built-spec : {M : Type 1} → statement M
+print-built-spec =
+    tie.close
+    (tie.spec
+    refusal-requires
+    same-length
+    returns
+    cast-count
+    slice-aggregate-schedule
+    schedule-requires
+    same-length-2
+    returns-2)

@@ -1,0 +1,29 @@
+-- `reply::reply` meets its contract.
+-- Assumes nothing.
+use Rattle.reply.proofs.Ways.{built-count, built-replies}
+use borrow.Author.Needs.{needs}
+use Rattle.reply.proofs.reply.Statement.{statement}
+use Rattle.reply.proofs.reply.Tie as tie
+
+build-requires : tie.Need-build-requires
+build-requires c κs = search needs
+
+print-built-requires : tie.Need-print-built-requires
+print-built-requires c κs = built-count _ (c .before .before .before .before .before .before .before .build .ensures)
+
+same-length : tie.Need-same-length
+same-length c = search needs
+
+same-length-2 : tie.Need-same-length-2
+same-length-2 c = search needs
+
+same-length-3 : tie.Need-same-length-3
+same-length-3 c = search needs
+
+returns : tie.Need-returns
+returns c = built-replies _ (c .before .before .before .before .before .before .before .before .before .before .before .before .before .before .before .before .before .pre .0 .0) (c .before .before .before .before .before .before .before .before .before .before .before .before .before .before .before .before .before .pre .0 .1) (c .before .before .before .before .before .before .before .before .before .before .before .before .before .before .before .before .before .pre .1) (c .before .before .before .before .before .before .before .before .before .before .build .kept .1 .1 .0) (c .before .before .before .before .before .before .before .before .before .before .build .ensures) (c .before .before .print-built .ensures)
+
+pub reply-spec : {M : Type 1} → statement M
+reply-spec =
+    tie.close
+    (tie.spec build-requires print-built-requires same-length same-length-2 same-length-3 returns)
