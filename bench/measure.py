@@ -49,6 +49,7 @@ CALENDARS = {"null": calendar(0), "weekends": calendar(WEEKEND), "600 closed": c
 START = day(2025, 1, 15)
 REQUESTS = {
     "30 years quarterly": f"{START} {day(2055, 1, 15)} M 3 1 2 2 0 0 0",
+    "30 years quarterly, 31st": f"{day(2025, 1, 31)} {day(2055, 1, 31)} M 3 1 2 2 0 0 0",
     "10 years monthly": f"{START} {day(2035, 1, 15)} M 1 1 2 2 0 0 0",
     "5 years weekly": f"{START} {day(2030, 1, 15)} W 1 1 2 2 0 0 0",
     "1 year daily": f"{START} {day(2026, 1, 15)} D 1 1 2 2 0 0 0",

@@ -1,15 +1,10 @@
 // Years, months and days of a day number, by ISO 8601 (proleptic Gregorian).
 ghost use mathlib.Core.Path.{_≡_};
-ghost use Prim.Native.Nat.{_<_, _≤_};
+ghost use Prim.Native.Nat.{_<_, _≤_, min};
 ghost use lib.ListN.{getD};
 ghost use Rattle.date.specs.Civil.{leap, rowOf, monthLength, gone, yearsGone, sumTo, monthIn, placeOf, fieldsAt, fieldsOf, dayNumber, weekdayOf, daysUntil, pickN};
 use crate::Fields;
-
-// The days of the months, in a common year and in a leap year.
-const MONTHS: [[u8; 12]; 2] = [
-    [31, 28, 31, 30, 31, 30, 31, 31, 30, 31, 30, 31],
-    [31, 29, 31, 30, 31, 30, 31, 31, 30, 31, 30, 31],
-];
+use crate::span;
 
 // A month and a day of it, both from 0.
 pub struct Place {
@@ -23,16 +18,18 @@ pub fn is_leap(year: u32) -> bool
     year % 4 == 0 && (year % 100 != 0 || year % 400 == 0)
 }
 
-// The days of a month, from 0; there are none in a month that is not there.
+// The days of a month, from 0; there are none in a month that is not there. February stands apart; the others have 31 and 30
+// days by turns, the other way round from August on.
 fn length_at(leaps: bool, month: usize) -> u32
     ensures { λ r. ⌜ r ≡ getD (rowOf leaps) month 0 ⌝ }
 {
-    if month < 12 {
-        let row = leaps as usize;
-        MONTHS[row][month] as u32
-    } else {
-        0
+    if month == 1 {
+        return 28 + leaps as u32;
     }
+    if month < 12 {
+        return 30 + 9 * (month as u32 + 1) / 8 % 2;
+    }
+    0
 }
 
 pub fn month_length(year: u32, month: u32) -> u32
@@ -133,6 +130,16 @@ pub(crate) fn day_number(year: u32, month: u32, day: u32) -> u32
     ensures { λ r. ⌜ r ≡ dayNumber year month day ⌝ }
 {
     days_gone((year - 1) as u64) as u32 + days_before(is_leap(year), month - 1) + day
+}
+
+// The same, of the month's last day where the month is shorter; one leap test serves the month's start and its length.
+pub(crate) fn clamped_number(year: u32, month: u32, day: u32) -> u32
+    requires { ⌜ (1 ≤ year) × (year < 2400) × (1 ≤ month) × (month ≤ 12) ⌝ }
+    ensures { λ r. ⌜ r ≡ dayNumber year month (min day (monthLength year month)) ⌝ }
+{
+    let leaps = is_leap(year);
+    let before = days_gone((year - 1) as u64) as u32 + days_before(leaps, month - 1);
+    before + span::least(day, length_at(leaps, (month - 1) as usize))
 }
 
 // 1 is Monday and 7 Sunday.

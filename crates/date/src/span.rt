@@ -23,13 +23,14 @@ pub fn within(n: u64) -> Dated
     Dated::Refused(refusal::BOOK)
 }
 
-fn least(a: u32, b: u32) -> u32
+pub(crate) fn least(a: u32, b: u32) -> u32
     ensures { λ r. ⌜ r ≡ min a b ⌝ }
 {
     if a < b { a } else { b }
 }
 
-// The day of a month counted as 12 * year + month - 1, or the month's last day where it is shorter.
+// The day of a month counted as 12 * year + month - 1, or the month's last day where it is shorter. No month is shorter than 28 days,
+// so most days are numbered without a length.
 pub fn in_month(t: u64, day: u32) -> Dated
     ensures { λ r. ⌜ dated r ≡ inMonth t day ⌝ }
 {
@@ -44,18 +45,23 @@ pub fn in_month(t: u64, day: u32) -> Dated
     }
     let year = (t / 12) as u32;
     let month = (t % 12) as u32 + 1;
+    if 28 < day {
+        return Dated::Day(Date {
+            day: civil::clamped_number(year, month, day),
+        });
+    }
     Dated::Day(Date {
-        day: civil::day_number(year, month, least(day, civil::month_length(year, month))),
+        day: civil::day_number(year, month, day),
     })
 }
 
+// A day's own number, taken for a day of the month, is past the month's end but for days of year 1, which lie outside. With 31 in
+// its place the compiler expands `in_month` here.
 pub fn last_of_month(n: u32) -> Dated
     ensures { λ r. ⌜ dated r ≡ lastOfMonth n ⌝ }
 {
     let f = civil::fields_of(n);
-    let year = f.year;
-    let month = f.month;
-    Date::make(year, month, civil::month_length(year, month))
+    in_month(12 * (f.year as u64) + (f.month as u64) - 1, n)
 }
 
 // k further on, or back; what lies before 0 is 0.

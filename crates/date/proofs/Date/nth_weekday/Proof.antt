@@ -1,11 +1,13 @@
 -- `date::Date::nth_weekday` meets its contract.
 -- Assumes nothing.
+use mathlib.Core.Path.{_∙_}
 use native.Mathlib.Omega.{arith}
-use borrow.Author.Tests.{le-leb, lt-leb}
-use Rattle.refusal.specs.Laws.{fails, after, holds, then-given, then-refused}
+use borrow.Author.Tests.{lt-leb}
+use Rattle.refusal.specs.Laws.{fails, after, then-refused}
 use Rattle.date.specs.Date.{dated, nthWeekdayOf}
 use Rattle.date.specs.Made.{given-day, refused-day}
 use Rattle.date.specs.Moves.{until-at, nth-of}
+use Rattle.date.proofs.Ends.{nth-over, nth-within}
 use borrow.Author.Needs.{needs}
 use Rattle.date.proofs.Date.nth_weekday.Statement.{statement}
 use Rattle.date.proofs.Date.nth_weekday.Tie as tie
@@ -13,6 +15,8 @@ use Rattle.date.proofs.Date.nth_weekday.Reads as reads
 use Rattle.date.proofs.Date.nth_weekday.Lts as lts
 use Rattle.date.proofs.Date.make.Reads as make-reads
 use Rattle.date.proofs.civil.days_until.Reads as days-until-reads
+use Rattle.date.proofs.civil.month_length.Reads as month-length-reads
+use Rattle.date.proofs.span.within.Reads as within-reads
 
 returns : tie.Need-returns
 unfolding dated nthWeekdayOf
@@ -39,31 +43,53 @@ enum-known-first c = search needs
 days-until-requires : tie.Need-days-until-requires
 days-until-requires c κs = search needs
 
-add-make : tie.Need-add-make
-add-make c = record { fits = omega (arith, c .days-until .ensures, until-at _ _ _ (c .days-until .ensures)) }
+mul-on : tie.Need-mul-on
+mul-on c = search needs
 
-mul-make : tie.Need-mul-make
-mul-make c = search needs
+add-on : tie.Need-add-on
+add-on c = record { fits = omega (arith, until-at _ _ _ (c .days-until .ensures)) }
 
-add-make-2 : tie.Need-add-make-2
-add-make-2 c = record { fits = omega (arith, until-at _ _ _ (c .days-until .ensures)) }
+month-length-requires : tie.Need-month-length-requires
+month-length-requires c κs = search needs
 
-make-requires-2 : tie.Need-make-requires-2
-make-requires-2 c κs = search needs
+returns-5 : tie.Need-returns-5
+unfolding dated
+returns-5 c =
+    let first = c .before .before .before .before .before .before .make in
+    let day = c .before .before .before .before .first .given .0 .0 in
+    nth-over _ _ _ _ _ _ (omega arith) (omega arith) (omega arith) (omega arith)
+    (given-day (first .result) day _ (first .ensures) (cc))
+    (c .before .before .days-until .ensures)
+    (omega (arith, c .before .month-length .ensures))
+
+cast-within : tie.Need-cast-within
+cast-within c = search needs
+
+cast-within-2 : tie.Need-cast-within-2
+cast-within-2 c = search needs
+
+add-within : tie.Need-add-within
+add-within c = search needs
+
+within-requires : tie.Need-within-requires
+within-requires c κs = search needs
 
 enum-known-first-2 : tie.Need-enum-known-first-2
 enum-known-first-2 c = search needs
 
-returns-5 : tie.Need-returns-5
-returns-5 c =
-    let first = c .before .before .before .before .before .make in
-    let day = c .before .before .before .first .given .0 .0 in
-    nth-of _ _ _ _ (omega arith) (omega arith) (omega arith) (omega arith) _
-    (then-given _ (day .day) _ _ (given-day (first .result) day _ (first .ensures) (cc)) (cc))
-
 returns-6 : tie.Need-returns-6
-unfolding dated
 returns-6 c =
+    let first = c .before .before .before .before .before .before .before .before .make in
+    let day = c .before .before .before .before .before .before .first .given .0 .0 in
+    c .within .ensures
+    ∙ nth-within _ _ _ _ _ _ (omega arith) (omega arith) (omega arith) (omega arith)
+    (given-day (first .result) day _ (first .ensures) (cc))
+    (c .before .before .before .before .days-until .ensures)
+    (omega (arith, c .before .before .before .month-length .ensures))
+
+returns-7 : tie.Need-returns-7
+unfolding dated
+returns-7 c =
     let first = c .before .before .before .make in
     let number = c .before .first2 .given .0 .0 in
     nth-of _ _ _ _ (omega arith) (omega arith) (omega arith) (omega arith) _
@@ -80,10 +106,14 @@ nth-weekday-spec =
     make-requires
     enum-known-first
     days-until-requires
-    add-make
-    mul-make
-    add-make-2
-    make-requires-2
-    enum-known-first-2
+    mul-on
+    add-on
+    month-length-requires
     returns-5
-    returns-6)
+    cast-within
+    cast-within-2
+    add-within
+    within-requires
+    enum-known-first-2
+    returns-6
+    returns-7)

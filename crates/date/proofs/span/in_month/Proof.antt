@@ -1,16 +1,17 @@
 -- `date::span::in_month` meets its contract.
 -- Assumes nothing.
+use mathlib.Core.Path.{refl}
 use native.Mathlib.Omega.{arith}
 use Rattle.date.specs.Date.{dated}
-use Rattle.date.specs.Moves.{month-early, month-late, month-day-0, month-day-le, month-day}
+use Rattle.date.specs.Moves.{month-early, month-late, month-day-0, month-day}
+use Rattle.date.proofs.Ends.{not-over}
 use borrow.Author.Needs.{needs}
 use Rattle.date.proofs.span.in_month.Statement.{statement}
 use Rattle.date.proofs.span.in_month.Tie as tie
 use Rattle.date.proofs.span.in_month.Reads as reads
 use Rattle.date.proofs.span.in_month.Lts as lts
+use Rattle.date.proofs.civil.clamped_number.Reads as clamped-number-reads
 use Rattle.date.proofs.civil.day_number.Reads as day-number-reads
-use Rattle.date.proofs.civil.month_length.Reads as month-length-reads
-use Rattle.date.proofs.span.least.Reads as least-reads
 
 returns : tie.Need-returns
 unfolding dated
@@ -33,19 +34,19 @@ cast-month c = search needs
 add-month : tie.Need-add-month
 add-month c = search needs
 
-month-length-requires : tie.Need-month-length-requires
-month-length-requires c κs = search needs
-
-least-requires : tie.Need-least-requires
-least-requires c κs = search needs
-
-day-number-requires : tie.Need-day-number-requires
-day-number-requires c κs =
-    (search needs, search needs, search needs, search needs, month-day-le _ _ _ _ (c .before .month-length .ensures) (c .least .ensures))
+clamped-number-requires : tie.Need-clamped-number-requires
+clamped-number-requires c κs = search needs
 
 returns-4 : tie.Need-returns-4
 unfolding dated
-returns-4 c = month-day _ _ _ _ (c .before .before .month-length .ensures) (c .before .least .ensures) (omega arith) (omega arith) (omega arith) _ (c .day-number .ensures)
+returns-4 c = month-day _ _ _ _ refl refl (omega arith) (omega arith) (omega arith) _ (c .clamped-number .ensures)
+
+day-number-requires : tie.Need-day-number-requires
+day-number-requires c κs = search needs
+
+returns-5 : tie.Need-returns-5
+unfolding dated
+returns-5 c = month-day _ _ _ _ refl (not-over _ _ _ (omega arith) (omega arith)) (omega arith) (omega arith) (omega arith) _ (c .day-number .ensures)
 
 pub in-month-spec : {M : Type 1} → statement M
 in-month-spec =
@@ -57,7 +58,7 @@ in-month-spec =
     cast-year
     cast-month
     add-month
-    month-length-requires
-    least-requires
+    clamped-number-requires
+    returns-4
     day-number-requires
-    returns-4)
+    returns-5)
