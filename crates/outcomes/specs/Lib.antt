@@ -4,6 +4,7 @@ pub mod Late
 pub mod Searched
 pub mod Days
 pub mod Twentieths
+pub mod Grid
 pub mod Each
 pub mod Finished
 pub mod Listed

@@ -107,7 +107,7 @@ points : _≡_ {A = List (Answer Schedule)}
     ∷ given (record { dates = on 1 1 ∷ on 1 3 ∷ on 1 2 ∷ on 1 4 ∷ []; flags = 0 ∷ 0 ∷ 0 ∷ []; tries = 1 })
     ∷ given (record { dates = dayNumber 2024 12 20 ∷ on 3 21 ∷ on 6 20 ∷ on 9 20 ∷ on 12 20 ∷ []; flags = 1 ∷ 1 ∷ 1 ∷ 1 ∷ []; tries = 4 })
     ∷ given (record { dates = on 3 1 ∷ on 6 20 ∷ on 9 22 ∷ on 12 22 ∷ []; flags = 0 ∷ 1 ∷ 1 ∷ []; tries = 3 })
-    ∷ given (record { dates = on 1 20 ∷ on 3 20 ∷ on 6 20 ∷ on 9 22 ∷ on 12 20 ∷ []; flags = 1 ∷ 1 ∷ 1 ∷ 1 ∷ []; tries = 4 })
+    ∷ given (record { dates = dayNumber 2024 12 20 ∷ on 3 20 ∷ on 6 20 ∷ on 9 22 ∷ on 12 20 ∷ []; flags = 1 ∷ 1 ∷ 1 ∷ 1 ∷ []; tries = 4 })
     ∷ refused 13
     ∷ refused 13
     ∷ given (record { dates = on 4 30 ∷ on 5 31 ∷ on 6 30 ∷ []; flags = 1 ∷ 1 ∷ []; tries = 3 })
