@@ -46,7 +46,7 @@ last-as n =
     let l : min 31 (monthLength (fieldsOf n .year) (fieldsOf n .month)) ≡ monthLength (fieldsOf n .year) (fieldsOf n .month) = omega (arith, length-le (fieldsOf n .year) (fieldsOf n .month)) in
     rw (i .0, i .1, l) refl
 
-days-apart : (y m a b : ℕ) → dayNumber y m a + b ≡ dayNumber y m b + a
+pub days-apart : (y m a b : ℕ) → dayNumber y m a + b ≡ dayNumber y m b + a
 unfolding dayNumber
 days-apart y m a b = omega arith
 

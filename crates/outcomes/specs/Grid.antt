@@ -9,11 +9,11 @@ use native.Mathlib.Nat.{le-antisymm}
 use lib.Dec.{ltb}
 use borrow.Author.Tests.{ltb-true, ltb-false}
 use Rattle.refusal.specs.Answer.{Answer, given, refused, need, then, BOOK}
-use Rattle.refusal.specs.Laws.{never-both, one-given}
+use Rattle.refusal.specs.Laws.{never-both}
 use Rattle.date.specs.Civil.{fieldsOf, monthLength, dayNumber}
 use Rattle.date.specs.Date.{inBook, monthIndex, inMonth, step, shiftMonths}
 use Rattle.date.specs.Months.{length-ge}
-use Rattle.date.specs.Round.{fields-valid, day-of-fields}
+use Rattle.date.specs.Round.{day-of-fields}
 use Rattle.date.specs.Order.{month-day-kept}
 use Rattle.date.specs.Moves.{book-from}
 use Rattle.imm.specs.Order.{month-le}
@@ -61,29 +61,29 @@ stepped : {A B : Type 0} {P : A → Type 0} {Q : B → Type 0} {x : Answer A} {f
 unfolding then
 stepped g s = rw (g .is) (s (g .value) (g .has))
 
-weaker : {A : Type 0} {P Q : A → Type 0} {x : Answer A} → Gives P x → ((a : A) → P a → Q a) → Gives Q x
+pub weaker : {A : Type 0} {P Q : A → Type 0} {x : Answer A} → Gives P x → ((a : A) → P a → Q a) → Gives Q x
 weaker g s = record { value = g .value; is = g .is; has = s (g .value) (g .has) }
 
 -- ---- the twentieth of a month, counted as 12 * year + month - 1
-pub record Twentieth (s t : ℕ) : Type 0 where
+pub record IsTwentieth (s t : ℕ) : Type 0 where
   pub span : InSpan t
   pub index : monthIndex t ≡ s
   pub day : fieldsOf t .day ≡ 20
 
-pub twentieth-number : {s t : ℕ} → Twentieth s t → t ≡ dayNumber (s / 12) (s % 12 + 1) 20
+pub twentieth-number : {s t : ℕ} → IsTwentieth s t → t ≡ dayNumber (s / 12) (s % 12 + 1) 20
 twentieth-number {s} {t} w =
     let i = index-fields t in
     let y : fieldsOf t .year ≡ s / 12 = sym (i .0) ∙ ap (λ (k : ℕ). k / 12) (w .index) in
     let m : fieldsOf t .month ≡ s % 12 + 1 = sym (i .1) ∙ ap (λ (k : ℕ). k % 12 + 1) (w .index) in
     sym (day-of-fields t (omega (arith, w .span .low))) ∙ (λ k. dayNumber (y k) (m k) (w .day k))
 
-pub twentieth-month : {s t : ℕ} → Twentieth s t → fieldsOf t .month % 3 ≡ (s + 1) % 3
+pub twentieth-month : {s t : ℕ} → IsTwentieth s t → fieldsOf t .month % 3 ≡ (s + 1) % 3
 twentieth-month {s} {t} w =
     let m : fieldsOf t .month ≡ s % 12 + 1 = sym (index-fields t .1) ∙ ap (λ (k : ℕ). k % 12 + 1) (w .index) in
     omega arith
 
 -- a later month has a later one
-pub twentieth-le : {s s′ t t′ : ℕ} → Twentieth s t → Twentieth s′ t′ → s ≤ s′ → t ≤ t′
+pub twentieth-le : {s s′ t t′ : ℕ} → IsTwentieth s t → IsTwentieth s′ t′ → s ≤ s′ → t ≤ t′
 twentieth-le {s} {s′} {t} {t′} w w′ h = ⊎-elim (λ (l : t ≤ t′). l) (λ (l : t′ < t). absurd (no l)) (le-or-lt t t′)
   where
     no : t′ < t → ⊥
@@ -93,59 +93,59 @@ twentieth-le {s} {s′} {t} {t′} w w′ h = ⊎-elim (λ (l : t ≤ t′). l) 
         let q : t ≡ t′ = twentieth-number w ∙ ap (λ (k : ℕ). dayNumber (k / 12) (k % 12 + 1) 20) e ∙ sym (twentieth-number w′) in
         omega arith
 
-pub in-month : (s : ℕ) → 21600 ≤ s → s ≤ 28799 → Gives (Twentieth s) (inMonth s 20)
+pub in-month : (s : ℕ) → 21600 ≤ s → s ≤ 28799 → Gives (IsTwentieth s) (inMonth s 20)
 in-month s a b =
     let e = month-there s 20 (omega arith) a b in
     let l : min 20 (monthLength (s / 12) (s % 12 + 1)) ≡ 20 = omega (arith, length-ge (s / 12) (s % 12 + 1) (omega arith)) in
     record { value = _; is = e; has = record { span = month-span s 20 _ e; index = month-of s 20 _ e; day = ap (λ f. f .day) (month-day-kept s 20 _ e) ∙ l } }
 
-shift : (back : Bool) (k s t : ℕ) → Twentieth s t → 21600 ≤ step back s k → step back s k ≤ 28799 → Gives (Twentieth (step back s k)) (shiftMonths t back k)
+pub shift : (back : Bool) (k s t : ℕ) → IsTwentieth s t → 21600 ≤ step back s k → step back s k ≤ 28799 → Gives (IsTwentieth (step back s k)) (shiftMonths t back k)
 unfolding shiftMonths
 shift back k s t w a b = rw (w .index, w .day) (in-month (step back s k) a b)
 
 -- the grid's own
-on-grid : {rule : Rule} {u : ℕ} → Grid rule u → Twentieth (monthIndex u) u
+on-grid : {rule : Rule} {u : ℕ} → Grid rule u → IsTwentieth (monthIndex u) u
 on-grid g = record { span = g .span; index = refl; day = g .day }
 
 of-quarter : {rule : Rule} {u : ℕ} → Grid rule u → inImmMonths rule ≡ true → (monthIndex u + 1) % 3 ≡ 0
 of-quarter g e = sym (twentieth-month (on-grid g)) ∙ g .month e
 
-any-month : {rule : Rule} {s t : ℕ} → inImmMonths rule ≡ false → Twentieth s t → Grid rule t
+any-month : {rule : Rule} {s t : ℕ} → inImmMonths rule ≡ false → IsTwentieth s t → Grid rule t
 any-month e w = record { span = w .span; day = w .day; month = λ i. absurd (false≢true (sym e ∙ i)) }
 
-quarter : {rule : Rule} {s t : ℕ} → (s + 1) % 3 ≡ 0 → Twentieth s t → Grid rule t
+quarter : {rule : Rule} {s t : ℕ} → (s + 1) % 3 ≡ 0 → IsTwentieth s t → Grid rule t
 quarter e w = record { span = w .span; day = w .day; month = λ i. twentieth-month w ∙ e }
 
 -- ---- of any month: the last twentieth on or before a date, and the first on or after it
 pub record Last (d t : ℕ) : Type 0 where
-  pub own : Twentieth (monthIndex t) t
+  pub own : IsTwentieth (monthIndex t) t
   pub low : 22811 ≤ monthIndex t
   pub high : monthIndex t ≤ 26399
   pub before : t ≤ d
-  pub most : (s u : ℕ) → Twentieth s u → u ≤ d → s ≤ monthIndex t
+  pub most : (s u : ℕ) → IsTwentieth s u → u ≤ d → s ≤ monthIndex t
 
 record First (d t : ℕ) : Type 0 where
-  own : Twentieth (monthIndex t) t
+  own : IsTwentieth (monthIndex t) t
   low : 22812 ≤ monthIndex t
   high : monthIndex t ≤ 26400
   after : d ≤ t
-  fewest : (s u : ℕ) → Twentieth s u → d ≤ u → monthIndex t ≤ s
+  fewest : (s u : ℕ) → IsTwentieth s u → d ≤ u → monthIndex t ≤ s
 
-itself : {s t : ℕ} → Twentieth s t → Twentieth (monthIndex t) t
+itself : {s t : ℕ} → IsTwentieth s t → IsTwentieth (monthIndex t) t
 itself w = record { span = w .span; index = refl; day = w .day }
 
 module _ (d : ℕ) (b : inBook d ≡ true) where
-  start : Gives (Twentieth (monthIndex d)) (twentiethOf d)
+  start : Gives (IsTwentieth (monthIndex d)) (twentiethOf d)
   unfolding twentiethOf
   start = let i = since d b in rw (made-as d 20 (omega arith)) (in-month (monthIndex d) (omega (arith, i .0)) (omega (arith, i .1)))
 
-  within : {s u : ℕ} → Twentieth s u → u ≤ d → s ≤ monthIndex d
+  within : {s u : ℕ} → IsTwentieth s u → u ≤ d → s ≤ monthIndex d
   within {s} {u} w h = omega (arith, w .index, month-le u d (omega (arith, w .span .low)) h)
 
-  beyond : {s u : ℕ} → Twentieth s u → d ≤ u → monthIndex d ≤ s
+  beyond : {s u : ℕ} → IsTwentieth s u → d ≤ u → monthIndex d ≤ s
   beyond {s} {u} w h = omega (arith, w .index, month-le d u (omega (arith, book-from d b)) h)
 
-  one-back : (t : ℕ) → Twentieth (monthIndex d) t → (c : Bool) → ltb d t ≡ c → Gives (Last d) (movedIf c true 1 t)
+  one-back : (t : ℕ) → IsTwentieth (monthIndex d) t → (c : Bool) → ltb d t ≡ c → Gives (Last d) (movedIf c true 1 t)
   unfolding movedIf step
   one-back t w true e =
       let i = since d b in
@@ -161,7 +161,7 @@ module _ (d : ℕ) (b : inBook d ≡ true) where
       let i = since d b in
       gives t (record { own = itself w; low = omega (arith, i .0, w .index); high = omega (arith, i .1, w .index); before = ltb-false d t e; most = λ s u x h. omega (arith, w .index, within x h) })
 
-  one-on : (t : ℕ) → Twentieth (monthIndex d) t → (c : Bool) → ltb t d ≡ c → Gives (First d) (movedIf c false 1 t)
+  one-on : (t : ℕ) → IsTwentieth (monthIndex d) t → (c : Bool) → ltb t d ≡ c → Gives (First d) (movedIf c false 1 t)
   unfolding movedIf step
   one-on t w true e =
       let i = since d b in
@@ -219,20 +219,28 @@ module _ (rule : Rule) (d t : ℕ) where
           })
       by false e = gives t (record { grid = any-month e (l .own); after = l .after; least = λ u g h. twentieth-le (l .own) (on-grid g) (l .fewest (monthIndex u) u (on-grid g) h) })
 
--- ---- the public functions
+-- ---- the steps of a build, and the public functions
 module _ (rule : Rule) (d : ℕ) where
   in-book : {P : ℕ → Type 0} {x : Answer ℕ} → inBook d ≡ true → Gives P x → Gives P (need BOOK (inBook d) x)
   unfolding need
   in-book b g = rw b g
 
   module _ (b : inBook d ≡ true) where
+    pub previous-from : Gives (Latest rule d) (previousTwentieth rule d)
+    unfolding previousTwentieth
+    previous-from = let r = reached d b in rw (r .onward (toImmMonth rule true)) (back-to rule d (r .twentieth) (r .last))
+
+    pub next-from : Gives (Earliest rule d) (nextTwentieth rule d)
+    unfolding nextTwentieth
+    next-from = stepped (start d b) (λ t w. stepped (one-on d b t w (ltb t d) refl) (λ r l. on-to rule d r l))
+
     pub previous-latest : Gives (Latest rule d) (previousTwentiethOf rule d)
-    unfolding previousTwentiethOf previousTwentieth
-    previous-latest = in-book b (let r = reached d b in rw (r .onward (toImmMonth rule true)) (back-to rule d (r .twentieth) (r .last)))
+    unfolding previousTwentiethOf
+    previous-latest = in-book b previous-from
 
     pub next-earliest : Gives (Earliest rule d) (nextTwentiethOf rule d)
-    unfolding nextTwentiethOf nextTwentieth
-    next-earliest = in-book b (stepped (start d b) (λ t w. stepped (one-on d b t w (ltb t d) refl) (λ r l. on-to rule d r l)))
+    unfolding nextTwentiethOf
+    next-earliest = in-book b next-from
 
     -- a date of the grid is its own on both sides
     pub grid-itself : Grid rule d → (previousTwentiethOf rule d ≡ given d) × (nextTwentiethOf rule d ≡ given d)

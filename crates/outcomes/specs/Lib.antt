@@ -5,6 +5,7 @@ pub mod Searched
 pub mod Days
 pub mod Twentieths
 pub mod Grid
+pub mod FirstDate
 pub mod Each
 pub mod Finished
 pub mod Listed
@@ -17,4 +18,5 @@ pub mod Room
 pub mod NoLimit
 pub mod Rows
 pub mod Refusals
+pub mod RustStep
 pub mod Closed
