@@ -9,7 +9,7 @@ use native.Mathlib.Nat.{le-antisymm}
 use lib.Dec.{ltb}
 use borrow.Author.Tests.{ltb-true, ltb-false}
 use Rattle.refusal.specs.Answer.{Answer, given, refused, need, then, BOOK}
-use Rattle.refusal.specs.Laws.{never-both}
+use Rattle.refusal.specs.Laws.{fails, never-both}
 use Rattle.date.specs.Civil.{fieldsOf, monthLength, dayNumber}
 use Rattle.date.specs.Date.{inBook, monthIndex, inMonth, step, shiftMonths}
 use Rattle.date.specs.Months.{length-ge}
@@ -108,20 +108,20 @@ on-grid : {rule : Rule} {u : ℕ} → Grid rule u → IsTwentieth (monthIndex u)
 on-grid g = record { span = g .span; index = refl; day = g .day }
 
 of-quarter : {rule : Rule} {u : ℕ} → Grid rule u → inImmMonths rule ≡ true → (monthIndex u + 1) % 3 ≡ 0
-of-quarter g e = sym (twentieth-month (on-grid g)) ∙ g .month e
+of-quarter {rule} {u} g e = sym (twentieth-month (on-grid g)) ∙ g .month e
 
 any-month : {rule : Rule} {s t : ℕ} → inImmMonths rule ≡ false → IsTwentieth s t → Grid rule t
-any-month e w = record { span = w .span; day = w .day; month = λ i. absurd (false≢true (sym e ∙ i)) }
+any-month {rule} {s} {t} e w = record { span = w .span; day = w .day; month = λ i. absurd (false≢true (sym e ∙ i)) }
 
 quarter : {rule : Rule} {s t : ℕ} → (s + 1) % 3 ≡ 0 → IsTwentieth s t → Grid rule t
-quarter e w = record { span = w .span; day = w .day; month = λ i. twentieth-month w ∙ e }
+quarter {rule} {s} {t} e w = record { span = w .span; day = w .day; month = λ i. twentieth-month w ∙ e }
 
 -- ---- of any month: the last twentieth on or before a date, and the first on or after it
 pub record Last (d t : ℕ) : Type 0 where
   pub own : IsTwentieth (monthIndex t) t
   pub low : 22811 ≤ monthIndex t
   pub high : monthIndex t ≤ 26399
-  pub before : t ≤ d
+  pub upto : t ≤ d
   pub most : (s u : ℕ) → IsTwentieth s u → u ≤ d → s ≤ monthIndex t
 
 record First (d t : ℕ) : Type 0 where
@@ -154,12 +154,12 @@ module _ (d : ℕ) (b : inBook d ≡ true) where
         own = itself v;
         low = omega (arith, i .0, v .index);
         high = omega (arith, i .1, v .index);
-        before = later r d (monthIndex d - 1) (omega (arith, book-from d b)) (v .index) (omega (arith, i .0));
+        upto = later r d (monthIndex d - 1) (omega (arith, book-from d b)) (v .index) (omega (arith, i .0));
         most = λ s u x h. ⊎-elim (λ (k : s ≤ monthIndex r). k) (λ (k : monthIndex r < s). absurd (let bad : ⊥ = omega (arith, twentieth-le w x (omega (arith, v .index))) in bad)) (le-or-lt s (monthIndex r));
       })
   one-back t w false e =
       let i = since d b in
-      gives t (record { own = itself w; low = omega (arith, i .0, w .index); high = omega (arith, i .1, w .index); before = ltb-false d t e; most = λ s u x h. omega (arith, w .index, within x h) })
+      gives t (record { own = itself w; low = omega (arith, i .0, w .index); high = omega (arith, i .1, w .index); upto = ltb-false d t e; most = λ s u x h. omega (arith, w .index, within x h) })
 
   one-on : (t : ℕ) → IsTwentieth (monthIndex d) t → (c : Bool) → ltb t d ≡ c → Gives (First d) (movedIf c false 1 t)
   unfolding movedIf step
@@ -200,10 +200,10 @@ module _ (rule : Rule) (d t : ℕ) where
           let k : fieldsOf t .month % 3 ≡ (monthIndex t + 1) % 3 = twentieth-month (l .own) in
           weaker (shift true (fieldsOf t .month % 3) (monthIndex t) t (l .own) (omega (arith, l .low)) (omega (arith, l .high))) (λ r v. record {
             grid = quarter (omega (arith, l .low)) v;
-            before = omega (arith, l .before, twentieth-le v (l .own) (omega arith));
+            before = omega (arith, l .upto, twentieth-le v (l .own) (omega arith));
             greatest = λ u g h. twentieth-le (on-grid g) v (omega (arith, of-quarter g e, l .most (monthIndex u) u (on-grid g) h));
           })
-      by false e = gives t (record { grid = any-month e (l .own); before = l .before; greatest = λ u g h. twentieth-le (on-grid g) (l .own) (l .most (monthIndex u) u (on-grid g) h) })
+      by false e = gives t (record { grid = any-month e (l .own); before = l .upto; greatest = λ u g h. twentieth-le (on-grid g) (l .own) (l .most (monthIndex u) u (on-grid g) h) })
 
   on-to : First d t → Gives (Earliest rule d) (toImmMonth rule false t)
   unfolding toImmMonth movedIf skipOf step
@@ -251,8 +251,8 @@ module _ (rule : Rule) (d : ℕ) where
 
   -- refused 2 exactly if the date is outside the book
   pub previous-outside : inBook d ≡ false → previousTwentiethOf rule d ≡ refused BOOK
-  unfolding previousTwentiethOf need
-  previous-outside e = rw e
+  unfolding previousTwentiethOf
+  previous-outside e = sym (fails BOOK (inBook d) _ e)
 
   pub previous-refused : (n : ℕ) → previousTwentiethOf rule d ≡ refused n → (inBook d ≡ false) × (n ≡ BOOK)
   previous-refused n h = by (inBook d) refl

@@ -137,7 +137,7 @@ module _ (d t : ℕ) (l : Last d t) where
   back-far k a b n =
       let p = in-month (monthIndex t - 1) (omega (arith, l .low)) (omega (arith, l .high)) in
       let m = month-on (monthIndex t - 1) (monthIndex t) (p .value) t (omega (arith, l .low)) (omega (arith, l .low)) (λ e. n (omega (arith, l .low))) (p .has) (l .own) in
-      weaker (shift true k (monthIndex t) t (l .own) (omega (arith, l .low)) (omega (arith, l .high))) (λ r v. omega (arith, l .before, m, twentieth-le v (p .has) (omega arith)))
+      weaker (shift true k (monthIndex t) t (l .own) (omega (arith, l .low)) (omega (arith, l .high))) (λ r v. omega (arith, l .upto, m, twentieth-le v (p .has) (omega arith)))
 
   both-far : (c : Bool) → (movedIf c true (skipOf false (fieldsOf t .month)) t ≡ movedIf c true (skipOf true (fieldsOf t .month)) t → ⊥) → Gives (Far d) (movedIf c true (skipOf true (fieldsOf t .month)) t) × Gives (Far d) (movedIf c true (skipOf false (fieldsOf t .month)) t)
   unfolding movedIf skipOf

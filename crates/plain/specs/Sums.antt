@@ -1,4 +1,4 @@
--- Document 01, "Sums by hand": all that are marked *, rooms included, as one list and one claim.
+-- Document 01, "Sums by hand": all that are marked *, rooms included, as one list and one claim; the CDS sum as request L3 has it.
 -- Assumes nothing.
 use Prim.Native.Nat.{ℕ}
 use mathlib.Core.Path.{_≡_, refl}
