@@ -48,7 +48,7 @@ pub record Gives {A : Type 0} (P : A → Type 0) (x : Answer A) : Type 0 where
 
 -- no two dates are so
 pub latest-once : (rule : Rule) (d t t′ : ℕ) → Latest rule d t → Latest rule d t′ → t ≡ t′
-latest-once rule d t t′ l l′ = le-antisymm (l′ .greatest t (l .grid) (l .before)) (l .greatest t′ (l′ .grid) (l′ .before))
+latest-once rule d t t′ l l′ = le-antisymm (l′ .greatest t (l .grid) (omega (arith, l .before))) (l .greatest t′ (l′ .grid) (omega (arith, l′ .before)))
 
 pub earliest-once : (rule : Rule) (d t t′ : ℕ) → Earliest rule d t → Earliest rule d t′ → t ≡ t′
 earliest-once rule d t t′ l l′ = le-antisymm (l .least t′ (l′ .grid) (l′ .after)) (l′ .least t (l .grid) (l .after))
