@@ -177,8 +177,7 @@ int64_t heronspan_next_imm_code_with_code(const uint8_t *code, size_t code_len, 
 /* The first twentieth on or after the day. */
 int64_t heronspan_next_twentieth(uint32_t day, uint8_t rule);
 
-/* The last twentieth on or before the day; for the rules of IMM months one or two months further back where its month is
- * not one of the four, as document 01 has it. */
+/* The last twentieth on or before the day. */
 int64_t heronspan_previous_twentieth(uint32_t day, uint8_t rule);
 
 /* ---- schedules */

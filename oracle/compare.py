@@ -7,12 +7,17 @@
     --room            each build is asked of ours and the law a second time, into lists of other lengths, often too short
     --without-ours    the library is not built here: the Rust and the law alone
     --ours=PROGRAM    another program of target/oracle in the place of `ours`
+    --no-exception    demand 2 without its exception, below: the run ends at the first CDS build that differs
 
 The law is oracle/reference.py; ours is the library, asked by oracle/ours through the functions that customers call. A
 build is asked twice: for its list, and for its tries and the least room that suffices. Ours and the law must agree
 wholly. A difference between them and the Rust must be one of those that have a name here. The first that is neither is
 printed and ends the run with status 1. The closing tables count outcomes, and give each name its smallest input. Names
 marked (shared) are of what the law takes over from the Rust.
+
+Demand 2's exception is a test of a question: it asks for the previous twentieth, or a build with CDS or CDS2015 in force, and
+the Rust's previous twentieth of the day is another than the law's. Its outcomes begin "left out"; ours is held to the law there
+as everywhere, and the Rust to the law with the Rust's step back.
 """
 import itertools
 import os
@@ -101,12 +106,32 @@ def agree(law, own):
         raise Differs(f"ours: {own}\n    the law: {law}")
 
 
-def judge_build(line, said, traced, own, own_traced):
+def excepted(words):
+    """Demand 2's exception."""
+    if words[0] == "prev20":
+        return reference.twentieths_differ(int(words[1]), int(words[2]))
+    return (words[0] == "build" and int(words[5]) in (reference.CDS, reference.CDS2015) and words[4] != "0"
+            and reference.twentieths_differ(int(words[1]), int(words[5])))
+
+
+def judge_build(line, said, traced, own, own_traced, exception):
     """Outcome, and the names that the question falls under."""
+    if not exception or not excepted(line.split(None, 6)):
+        return hold_build(line, said, traced, own, own_traced, reference.previous_twentieth)
+    law = reference.answer(line)
+    agree(law, own)
+    agree(reference.answer("trace" + line[5:]), own_traced)
+    outcome, _ = hold_build(line, said, traced, None, None, reference.rust_previous_twentieth)
+    same = law == reference.answer(line, previous=reference.rust_previous_twentieth)
+    return f"left out: {outcome}", [f"the CDS back-step to the wrong month: a build, {'the same' if same else 'another'} answer"]
+
+
+def hold_build(line, said, traced, own, own_traced, previous):
+    """The Rust and ours are held to the law with that step back to the previous twentieth."""
     words = line.split()
     names = []
     ends = traced.split()
-    build = reference.read_build(reference.Words(line[6:]))
+    build = reference.read_build(reference.Words(line[6:]), previous)
     try:
         build.run(reference.PLACES)
     except Refused as refused:
@@ -127,7 +152,7 @@ def judge_build(line, said, traced, own, own_traced):
         if number == 14:
             if ends[0] == "error" or int(ends[2]) <= reference.PLACES:
                 raise Differs(f"{traced}, refused 14")
-            wide = reference.answer(line, 10**9)
+            wide = reference.answer(line, 10**9, previous)
             if said != wide and (wide, said) not in (("refused 13", "closed"), ("refused 15", "panic")):
                 raise Differs(f"{said}, without limit {wide}")
             return "refused 14", ["a list of more than 4,096 dates"]
@@ -153,12 +178,10 @@ def judge_build(line, said, traced, own, own_traced):
         names.append(f"(shared) a list out of order: {RULES[build.rule]}")
     if any(s == 0 for s in steps):
         names.append(f"(shared) a list that repeats a date: {RULES[build.rule]}")
-    if build.rule in (8, 9) and reference.civil(reference.previous_twentieth(build.effective, 8)).month % 3:
-        names.append("(shared) CDS starts off the public dates")
     return "ok", names
 
 
-def judge_small(line, said, own):
+def judge_small(line, said, own, exception):
     """The Rust's answer is None where it cannot be asked."""
     words, names = line.split(), []
     kind = words[0]
@@ -177,8 +200,11 @@ def judge_small(line, said, own):
                 names.append(f"calendar advance by 0 against 01's words: {words[2]}")
         except Refused:
             names.append(f"calendar advance by 0 against 01's words: {words[2]}, 13")
-    if kind == "prev20" and said == expected and int(words[2]) in (4, 7, 8, 9) and reference.civil(int(said)).month % 3:
-        names.append("(shared) the previous twentieth off the public dates")
+    if exception and excepted(words):
+        step = str(reference.rust_previous_twentieth(int(words[1]), int(words[2])))
+        if said != step:
+            raise Differs(f"the Rust: {said}\n    the law with the Rust's step: {step}")
+        return "left out", ["the CDS back-step to the wrong month: prev20"]
     if said == expected:
         return "same", names
     if expected.startswith("refused"):
@@ -267,10 +293,10 @@ def cut(text):
 
 
 class Run:
-    def __init__(self, ours=None):
+    def __init__(self, ours=None, exception=True):
         self.outcomes, self.names, self.small = Counter(), Counter(), {}
         self.asked, self.start, self.told = Counter(), time.time(), time.time()
-        self.ours = ours
+        self.ours, self.exception = ours, exception
 
     def asking(self, pool, lines, timeout=None):
         """The lines, and what the Rust and ours will have answered to them and to the traces of their builds."""
@@ -289,11 +315,11 @@ class Run:
         for line, theirs, mine in zip(lines, said, own):
             try:
                 if theirs is not None and line.startswith("build "):
-                    yield line, *judge_build(line, theirs, next(traced), mine, next(own_traced))
+                    yield line, *judge_build(line, theirs, next(traced), mine, next(own_traced), self.exception)
                 else:
                     if line.startswith("build "):
                         agree(reference.answer(line), next(own_traced))
-                    yield line, *judge_small(line, theirs, mine)
+                    yield line, *judge_small(line, theirs, mine, self.exception)
             except Differs as differs:
                 raise Differs(f"{line}\n    {differs}") from None
 
@@ -351,6 +377,9 @@ class Run:
             print(f"  {name}: {self.names[name]}")
             print(f"      {cut(line)} -> {cut(rust([line])[0])} | {cut(reference.answer(line))}")
         builds, total = self.asked["build"], sum(self.asked.values())
+        left = {kind: sum(n for (row, outcome), n in self.outcomes.items() if outcome.startswith("left out") and row.split()[0] == kind)
+                for kind in ("build", "prev20")}
+        print(f"left out by demand 2's exception: {left['build']} builds and {left['prev20']} previous twentieths")
         print(f"{builds} builds and {total - builds} small questions in {took:.0f} s: no difference without a name"
               + (", none between ours and the law" if self.ours else "; ours was left out"))
 
@@ -384,7 +413,7 @@ def main():
     words = {word for word in sys.argv[1:] if word.startswith("--")}
     args = [word for word in sys.argv[1:] if word not in words]
     program = next((word[7:] for word in words if word.startswith("--ours=")), "ours")
-    if not words <= {"--room", "--without-ours", f"--ours={program}"}:
+    if not words <= {"--room", "--without-ours", "--no-exception", f"--ours={program}"}:
         sys.exit(__doc__.strip())
     kinds = [*requests.SMALL, *requests.MORE]
     if "--without-ours" in words:
@@ -392,7 +421,7 @@ def main():
     elif not os.path.exists(os.path.join(BUILT, program)):
         sys.exit(f"compare: missing target/oracle/{program} (oracle/build makes it; --without-ours leaves it out)")
     questions = questions_of(args, kinds)
-    run = Run(program)
+    run = Run(program, "--no-exception" not in words)
     try:
         run.compare(with_rooms(questions) if program and "--room" in words else questions)
     except Differs as differs:

@@ -220,33 +220,52 @@ def is_imm_code(code, main):
 
 # Twentieths
 
+IMM_MONTHS = TWENTIETH_IMM, OLD_CDS, CDS, CDS2015
+
+
 def next_twentieth(day, rule):
     d = civil(day)
     found = add_months(make(d.year, d.month, 20), 0 if d.day <= 20 else 1)
-    if rule in (TWENTIETH_IMM, OLD_CDS, CDS, CDS2015):
+    if rule in IMM_MONTHS:
         found = add_months(found, -civil(found).month % 3)
     return found
 
 
-def previous_twentieth(day, rule):
-    """As the Rust: two months back from a month with remainder 1 by three, one from remainder 2."""
+def twentieth_before(day):
     d = civil(day)
-    found = add_months(make(d.year, d.month, 20), 0 if d.day >= 20 else -1)
-    if rule in (TWENTIETH_IMM, OLD_CDS, CDS, CDS2015):
+    return add_months(make(d.year, d.month, 20), 0 if d.day >= 20 else -1)
+
+
+def previous_twentieth(day, rule):
+    found = twentieth_before(day)
+    if rule in IMM_MONTHS:
+        found = add_months(found, -(civil(found).month % 3))
+    return found
+
+
+def rust_previous_twentieth(day, rule):
+    """The Rust's step: as many months back as the next IMM month lies ahead."""
+    found = twentieth_before(day)
+    if rule in IMM_MONTHS:
         found = add_months(found, -(-civil(found).month % 3))
     return found
+
+
+def twentieths_differ(day, rule):
+    """Demand 2's exception: the Rust's previous twentieth is another one."""
+    return in_book(day) and previous_twentieth(day, rule) != rust_previous_twentieth(day, rule)
 
 
 # Schedules
 
 class Build:
     def __init__(self, effective, termination, unit, length, rule, convention, terminal, month_end, first, penultimate,
-                 calendar):
+                 calendar, previous=previous_twentieth):
         self.effective, self.termination = effective, termination
         self.unit, self.length = unit, length
         self.rule, self.convention, self.terminal = rule, convention, terminal
         self.month_end, self.first, self.penultimate = month_end, first, penultimate
-        self.calendar = calendar
+        self.calendar, self.previous = calendar, previous
         self.dates, self.flags, self.tries, self.room, self.peak = [], [], 0, PLACES, 0
 
     def check(self):
@@ -331,7 +350,7 @@ class Build:
         rule, start = self.rule, self.effective
         twentieths = rule in (TWENTIETH, TWENTIETH_IMM, OLD_CDS, CDS, CDS2015)
         if rule in (CDS, CDS2015):
-            back = previous_twentieth(start, rule)
+            back = self.previous(start, rule)
             if self.calendar.adjust(back, self.convention) > start:
                 self.put(add_months(back, -3))
                 self.put(back, True)
@@ -443,9 +462,9 @@ class Words:
         return Calendar(mask, closed)
 
 
-def read_build(w):
+def read_build(w, previous=previous_twentieth):
     return Build(w.number(), w.number(), w.word(), w.number(), w.number(), w.number(), w.number(), w.number(),
-                 w.number(), w.number(), w.calendar())
+                 w.number(), w.number(), w.calendar(), previous)
 
 
 def said_build(b, room):
@@ -453,8 +472,8 @@ def said_build(b, room):
     return " ".join(map(str, ["ok", b.rule, b.unit, b.length, len(b.dates), *b.dates, *map(int, b.flags)]))
 
 
-def ask_build(w, room):
-    return said_build(read_build(w), room)
+def ask_build(w, room, previous=previous_twentieth):
+    return said_build(read_build(w, previous), room)
 
 
 def ask_trace(w, room):
@@ -612,7 +631,7 @@ ASK = {
 }
 
 
-def answer(line, room=PLACES):
+def answer(line, room=PLACES, previous=previous_twentieth):
     w = Words(line)
     kind = w.word()
     try:
@@ -620,7 +639,7 @@ def answer(line, room=PLACES):
             return ask_lent(w)
         need(not outside(w.words), REQUEST)
         if kind == "build":
-            return ask_build(w, room)
+            return ask_build(w, room, previous)
         if kind == "trace":
             return ask_trace(w, room)
         return str(ASK[kind](w))

@@ -16,7 +16,8 @@ Another question is its kind, seven numbers, how many numbers its list has and t
 for any where the Rust stops, and the value. Where a count is to come out, it stands with the question's numbers, signed, and
 the value is 1.
 
-The differences that have a name come last, each by its smallest input, with 01's answer (oracle/reference.py).
+The differences that have a name come last, each by its smallest input, with the law's answer (oracle/reference.py); and where the
+Rust's previous twentieth is another than the law's, what is to come out is the law's answer too (twentieths.txt).
 """
 import os
 import sys
@@ -133,7 +134,7 @@ def small(question, answer):
 
 
 def named(question, law):
-    """The records of a difference that has a name, with the law's answer."""
+    """The records of a difference from the Rust, with the law's answer."""
     if question.startswith("trace "):
         return []
     if not question.startswith("build "):
@@ -143,12 +144,15 @@ def named(question, law):
 
 def main():
     folder = sys.argv[1]
-    records = [build(q, a, t) for (q, a), t in zip(pairs("builds.txt"), lines("tries.txt"))]
+    law = dict(pairs("twentieths.txt"))
+    records = []
+    for (question, answer), trace in zip(pairs("builds.txt"), lines("tries.txt")):
+        records += named(question, law[question]) if question in law else [build(question, answer, trace)]
     for question, answer in pairs("small.txt"):
-        records += small(question, answer)
+        records += small(question, law.get(question, answer))
     stored = lines("named.txt")
-    for question, law in zip(stored[1::4], stored[3::4]):
-        records += named(question, law)
+    for question, answer in zip(stored[1::4], stored[3::4]):
+        records += named(question, answer)
     os.makedirs(os.path.join(folder, "data"), exist_ok=True)
     with open(os.path.join(folder, "data", "answers"), "w") as f:
         f.write("Answers of the Rust's, made by oracle/replay.py from oracle/answers, which oracle/store.py made.\n")

@@ -150,7 +150,7 @@ class Schedules(Refusals):
 
     def test_cds(self) -> None:
         built = h.build(date(2025, 4, 25), date(2025, 12, 20), 3, Unit.MONTHS, Rule.CDS)
-        self.assertEqual(built.dates, days("2025-02-20", "2025-06-20", "2025-09-20", "2025-12-20"))
+        self.assertEqual(built.dates, days("2025-03-20", "2025-06-20", "2025-09-20", "2025-12-20"))
 
     def test_conventions_of_the_dates_and_of_the_last(self) -> None:
         asked = (date(2025, 1, 15), date(2025, 12, 20), 3, Unit.MONTHS)
@@ -184,6 +184,10 @@ class Schedules(Refusals):
         self.assertEqual(h.next_twentieth(date(2025, 4, 25), Rule.CDS), date(2025, 6, 20))
         self.assertEqual(h.next_twentieth(date(2025, 4, 25), Rule.TWENTIETH), date(2025, 5, 20))
         self.assertEqual(h.previous_twentieth(date(2025, 4, 25), Rule.TWENTIETH), date(2025, 4, 20))
+        self.assertEqual(h.previous_twentieth(date(2025, 4, 25), Rule.CDS), date(2025, 3, 20))
+        self.assertEqual(h.previous_twentieth(date(2025, 3, 20), Rule.CDS), date(2025, 3, 20))
+        self.assertEqual(h.previous_twentieth(date(2025, 3, 19), Rule.CDS), date(2024, 12, 20))
+        self.assertEqual(h.previous_twentieth(date(1901, 1, 1), Rule.TWENTIETH_IMM), date(1900, 12, 20))
 
 
 if __name__ == "__main__":

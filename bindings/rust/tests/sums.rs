@@ -80,7 +80,7 @@ fn schedules() {
     assert_eq!(quarterly().room(4).build(), Err(Refusal::Room));
     assert_eq!(quarterly().first(day(2025, 1, 15)).build(), Err(Refusal::FirstDate));
     let credit = Request::new(day(2025, 4, 25), day(2025, 12, 20), 3, Unit::Months).rule(Rule::Cds).build().unwrap();
-    assert_eq!(credit.dates, [day(2025, 2, 20), day(2025, 6, 20), day(2025, 9, 20), day(2025, 12, 20)]);
+    assert_eq!(credit.dates, [day(2025, 3, 20), day(2025, 6, 20), day(2025, 9, 20), day(2025, 12, 20)]);
 }
 
 #[test]
@@ -96,6 +96,7 @@ fn the_last_date_has_its_own_convention() {
 fn twentieths() {
     assert_eq!(day(2025, 4, 25).next_twentieth(Rule::Cds), Ok(day(2025, 6, 20)));
     assert_eq!(day(2025, 4, 25).previous_twentieth(Rule::Twentieth), Ok(day(2025, 4, 20)));
+    assert_eq!(day(2025, 4, 25).previous_twentieth(Rule::Cds), Ok(day(2025, 3, 20)));
 }
 
 #[test]

@@ -28,11 +28,11 @@ pub record InMonth (s r : ℕ) : Type 0 where
 pub month-fine : {c : Type 0} (s d : ℕ) → 1 ≤ d → 21600 ≤ s → s ≤ 28799 → Fine c (InMonth s) (inMonth s d)
 month-fine s d p a b = record { late = λ n e. absurd (never-both (inMonth s d) _ n (month-there s d p a b) e); holds = λ r e. record { index = month-of s d r e; span = month-span s d r e } }
 
-index-fields : (n : ℕ) → (monthIndex n / 12 ≡ fieldsOf n .year) × (monthIndex n % 12 + 1 ≡ fieldsOf n .month)
+pub index-fields : (n : ℕ) → (monthIndex n / 12 ≡ fieldsOf n .year) × (monthIndex n % 12 + 1 ≡ fieldsOf n .month)
 unfolding monthIndex
 index-fields n = let v = fields-valid n in (omega (arith, v .month, v .twelve), omega (arith, v .month, v .twelve))
 
-made-as : (n x : ℕ) → x ≤ 28 → makeOf (fieldsOf n .year) (fieldsOf n .month) x ≡ inMonth (monthIndex n) x
+pub made-as : (n x : ℕ) → x ≤ 28 → makeOf (fieldsOf n .year) (fieldsOf n .month) x ≡ inMonth (monthIndex n) x
 unfolding inMonth
 made-as n x h =
     let i = index-fields n in
@@ -46,7 +46,7 @@ last-as n =
     let l : min 31 (monthLength (fieldsOf n .year) (fieldsOf n .month)) ≡ monthLength (fieldsOf n .year) (fieldsOf n .month) = omega (arith, length-le (fieldsOf n .year) (fieldsOf n .month)) in
     rw (i .0, i .1, l) refl
 
-days-apart : (y m a b : ℕ) → dayNumber y m a + b ≡ dayNumber y m b + a
+pub days-apart : (y m a b : ℕ) → dayNumber y m a + b ≡ dayNumber y m b + a
 unfolding dayNumber
 days-apart y m a b = omega arith
 

@@ -4,6 +4,8 @@ pub mod Late
 pub mod Searched
 pub mod Days
 pub mod Twentieths
+pub mod Grid
+pub mod FirstDate
 pub mod Each
 pub mod Finished
 pub mod Listed
@@ -16,4 +18,5 @@ pub mod Room
 pub mod NoLimit
 pub mod Rows
 pub mod Refusals
+pub mod RustStep
 pub mod Closed

@@ -2,18 +2,21 @@
 -- there is no search.
 -- Assumes nothing.
 use Prim.Native.Nat.{ℕ, zero, suc, _+_, _≤_}
-use mathlib.Core.Path.{_≡_, refl, ap}
+use mathlib.Core.Path.{_≡_, refl, ap, _∙_}
 use mathlib.Core.Bool.{Bool, true, false, not}
 use mathlib.Core.List.{List}
 use native.Mathlib.Omega.{arith}
 use borrow.Author.Tests.{le-leb}
-use Rattle.refusal.specs.Answer.{CLOSED}
+use Rattle.refusal.specs.Answer.{given, BOOK, CLOSED}
+use Rattle.refusal.specs.Laws.{need-given, one-given, then-stepped}
 use Rattle.date.specs.Date.{SPAN-FIRST, SPAN-LAST, withinSpan, step}
-use Rattle.date.specs.Moves.{span-in}
+use Rattle.date.specs.Moves.{span-in, step-le}
 use Rattle.calendar.specs.declared.Convention.{Convention}
 use Rattle.calendar.specs.declared.Convention.the-variants.{Unadjusted, Following, ModifiedFollowing, Preceding, ModifiedPreceding}
 use Rattle.calendar.specs.Open.{isOpen}
 use Rattle.calendar.specs.Adjust.{conventionNumber, inSpan, takenOr, firstOpen, found, sameMonth, unlessLeft, modified, byConvention, adjusted}
+use Rattle.calendar.specs.Search.{found-first}
+use Rattle.outcomes.specs.Span.{span-is}
 use Rattle.outcomes.specs.Late.{by-search, Fine, gives, refuses, steps, weaker, tested}
 
 pub record Close (n day r : ℕ) : Type 0 where
@@ -82,3 +85,32 @@ module _ {c : Type 0} where
     pub adjusted-fine : (convention : Convention) (day : ℕ) → Asks c convention → Wide day → Fine c (Close 31 day) (adjusted mask closed convention day)
     unfolding adjusted
     adjusted-fine convention day a w = tested (inSpan day) (wide-span day w) (by-fine convention day a w)
+
+-- ---- a search goes 30 days on at most
+module _ (mask : ℕ) (closed : List ℕ) (day r : ℕ) where
+  found-near : (back : Bool) → found mask closed back day ≡ given r → r ≤ day + 30
+  unfolding found
+  found-near back h =
+      let s = then-stepped (firstOpen mask closed back 31 day) withinSpan r h in
+      let f = found-first mask closed back 31 day (s .value) (s .from) in
+      omega (arith, span-is (s .value) r (s .to) .2, f .few, step-le (s .value) back day (f .steps) (f .there))
+
+  modified-near : (back : Bool) → modified mask closed back day ≡ given r → r ≤ day + 30
+  unfolding modified unlessLeft
+  modified-near back h = let s = then-stepped (found mask closed back day) _ r h in by (s .value) (sameMonth day (s .value)) (s .from) (s .to)
+    where
+      by : (new : ℕ) (b : Bool) → found mask closed back day ≡ given new → unlessLeft b day new (found mask closed (not back)) ≡ given r → r ≤ day + 30
+      by new true f e = found-near back (f ∙ e)
+      by new false f e = found-near (not back) e
+
+  by-near : (convention : Convention) → byConvention mask closed convention day ≡ given r → r ≤ day + 30
+  unfolding byConvention
+  by-near Unadjusted h = let e = one-given (given day) day r refl h in omega arith
+  by-near Following h = found-near false h
+  by-near ModifiedFollowing h = modified-near false h
+  by-near Preceding h = found-near true h
+  by-near ModifiedPreceding h = modified-near true h
+
+  pub adjusted-near : (convention : Convention) → adjusted mask closed convention day ≡ given r → r ≤ day + 30
+  unfolding adjusted
+  adjusted-near convention h = by-near convention (need-given BOOK (inSpan day) _ r h .1)

@@ -16,9 +16,10 @@ use Rattle.steps.specs.Twentieths.{twentiethOf, movedIf, skipOf, toImmMonth, ne
 use Rattle.outcomes.specs.Late.{Fine, gives, steps, weaker}
 use Rattle.outcomes.specs.Days.{At, made-fine, Between, mid-at, wider, in-between, sooner, shift-fine}
 
-skip-few : (month : ℕ) → skipOf month ≤ 2
+skip-few : (back : Bool) (month : ℕ) → skipOf back month ≤ 2
 unfolding skipOf
-skip-few month = omega arith
+skip-few true month = omega arith
+skip-few false month = omega arith
 
 module _ {c : Type 0} where
   moved-fine : (b back : Bool) (lo hi k day : ℕ) → 21600 ≤ lo - k → hi + k ≤ 28799 → Between lo hi day → Fine c (Between (lo - k) (hi + k)) (movedIf b back k day)
@@ -29,8 +30,8 @@ module _ {c : Type 0} where
   imm-fine : (rule : Rule) (back : Bool) (lo hi day : ℕ) → 21602 ≤ lo → hi ≤ 28797 → Between lo hi day → Fine c (Between (lo - 2) (hi + 2)) (toImmMonth rule back day)
   unfolding toImmMonth
   imm-fine rule back lo hi day a b m =
-      let k = skip-few (fieldsOf day .month) in
-      weaker (moved-fine (inImmMonths rule) back lo hi (skipOf (fieldsOf day .month)) day (omega arith) (omega arith) m) (λ r s. wider (lo - skipOf (fieldsOf day .month)) (hi + skipOf (fieldsOf day .month)) (lo - 2) (hi + 2) r (omega arith) (omega arith) s)
+      let k = skip-few back (fieldsOf day .month) in
+      weaker (moved-fine (inImmMonths rule) back lo hi (skipOf back (fieldsOf day .month)) day (omega arith) (omega arith) m) (λ r s. wider (lo - skipOf back (fieldsOf day .month)) (hi + skipOf back (fieldsOf day .month)) (lo - 2) (hi + 2) r (omega arith) (omega arith) s)
 
   module _ (lo hi day : ℕ) (m : ℕ) (small : m ≤ 1000) (at : At m day) (a : 22700 ≤ lo) (b : hi ≤ 26500) (from : lo ≤ monthIndex day) (to : monthIndex day ≤ hi) where
     twentieth-fine : Fine c (Between lo hi) (twentiethOf day)

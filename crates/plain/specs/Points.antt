@@ -1,7 +1,7 @@
 -- The points of document 01 that are easily lost, a build or two for each, as one list and one claim. The answers are the Rust's (oracle/README.md says
--- how it is asked); `closed` and a panic of its are 13 and 15.
+-- how it is asked); `closed` and a panic of its are 13 and 15. Not the Rust's are the four that begin at the previous twentieth of a date off the grid.
 -- Assumes nothing.
-use Prim.Native.Nat.{ℕ}
+use Prim.Native.Nat.{ℕ, zero, suc}
 use mathlib.Core.Path.{_≡_, refl}
 use mathlib.Core.Bool.{Bool, true, false}
 use mathlib.Core.List.{List, [], _∷_}
@@ -39,6 +39,11 @@ weekends = 96
 abbrev allButSundays : ℕ
 allButSundays = 63
 
+-- days one after the other
+daysFrom : ℕ → ℕ → List ℕ
+daysFrom zero day = []
+daysFrom (suc n) day = day ∷ daysFrom n (suc day)
+
 -- effective, termination, tenor
 asked : Rule → Convention → Convention → Bool → ℕ → ℕ → ℕ → Unit → ℕ → ℕ → ℕ → Request
 asked rule convention terminal monthend from to length unit first penultimate mask =
@@ -75,6 +80,10 @@ points : _≡_ {A = List (Answer Schedule)}
     ∷ builds [] (asked Forward Unadjusted Unadjusted false (on 1 1) (on 1 4) 1 Months (on 1 3) (on 1 2) 0)
     -- CDS: the date before the previous twentieth is three months before it, unadjusted
     ∷ builds ((on 3 20) ∷ []) (asked CDS Following Following false (on 3 20) (on 12 20) 3 Months 0 0 0)
+    -- CDS from off the grid of twentieths: the Rust, whose step back lands elsewhere, gives two dates, collapses, and gives four
+    ∷ builds [] (asked CDS Unadjusted Unadjusted false (on 4 25) (on 3 1) 3 Months 0 0 0)
+    ∷ builds ((on 3 20) ∷ []) (asked CDS Preceding Preceding false (on 5 25) (on 3 1) 3 Months 0 0 0)
+    ∷ builds (daysFrom 31 (on 3 20)) (asked CDS Following Following false (on 4 25) (on 12 20) 3 Months 0 0 0)
     -- OldCDS never adjusts the first date, CDS never the last
     ∷ builds [] (asked OldCDS Following Following false (on 3 1) (on 12 20) 3 Months 0 0 weekends)
     ∷ builds [] (asked CDS Following Following false (on 3 1) (on 12 20) 3 Months 0 0 weekends)
@@ -106,8 +115,11 @@ points : _≡_ {A = List (Answer Schedule)}
     ∷ given (record { dates = on 2 3 ∷ on 6 20 ∷ []; flags = 0 ∷ []; tries = 1 })
     ∷ given (record { dates = on 1 1 ∷ on 1 3 ∷ on 1 2 ∷ on 1 4 ∷ []; flags = 0 ∷ 0 ∷ 0 ∷ []; tries = 1 })
     ∷ given (record { dates = dayNumber 2024 12 20 ∷ on 3 21 ∷ on 6 20 ∷ on 9 20 ∷ on 12 20 ∷ []; flags = 1 ∷ 1 ∷ 1 ∷ 1 ∷ []; tries = 4 })
+    ∷ refused 15
+    ∷ given (record { dates = on 3 19 ∷ on 3 20 ∷ []; flags = 0 ∷ []; tries = 1 })
+    ∷ refused 13
     ∷ given (record { dates = on 3 1 ∷ on 6 20 ∷ on 9 22 ∷ on 12 22 ∷ []; flags = 0 ∷ 1 ∷ 1 ∷ []; tries = 3 })
-    ∷ given (record { dates = on 1 20 ∷ on 3 20 ∷ on 6 20 ∷ on 9 22 ∷ on 12 20 ∷ []; flags = 1 ∷ 1 ∷ 1 ∷ 1 ∷ []; tries = 4 })
+    ∷ given (record { dates = dayNumber 2024 12 20 ∷ on 3 20 ∷ on 6 20 ∷ on 9 22 ∷ on 12 20 ∷ []; flags = 1 ∷ 1 ∷ 1 ∷ 1 ∷ []; tries = 4 })
     ∷ refused 13
     ∷ refused 13
     ∷ given (record { dates = on 4 30 ∷ on 5 31 ∷ on 6 30 ∷ []; flags = 1 ∷ 1 ∷ []; tries = 3 })
@@ -120,7 +132,7 @@ points : _≡_ {A = List (Answer Schedule)}
     ∷ given (record { dates = on 2 3 ∷ on 3 2 ∷ []; flags = 1 ∷ []; tries = 2 })
     ∷ given (record { dates = on 3 3 ∷ []; flags = []; tries = 1 })
     ∷ [])
-unfolding ruleNumber oneOf isZero isBackward asked builds need then leap rowOf monthLength gone sumTo dayNumber guess yearsGone monthIn dayIn placeOf fieldsAt weekdayOf daysUntil inBook withinSpan makeOf lastOfMonth monthIndex inMonth step shiftDays shiftMonths shifted nthWeekdayOf weeklyClosed member isOpen ascending closedOk calendarOk inSpan takenOr firstOpen found sameMonth unlessLeft modified byConvention adjusted lastOpen atMonthEnd towards openSteps endAsked landed addMonths addWeeks byUnit advanced longest tenorOk mainMonth inCycle isImm onTwentieths inImmMonths isCredit isOldCDS ruleUnder isNone ruleInForce tenorUnder tenorInForce paceBy paceOf numberOr firstRow isGiven anchorOk datesOk byRange byImm outOfRange notImm wrongRule firstOutside lastOutside monthendAllowed anchorRows firstRows lastRows rowsUnder inputRows twentiethOf movedIf skipOf toImmMonth nextTwentieth previousTwentieth lastDay seedOf candidateBy candidate isPast unlessSame unlessPast turnOf hasRoom put putUnless putNew onTurn lastTry walk candidates anchorOr putAnchor zeroDates putPenultimate begun ended backwardEnd backwardFrom backward putEarlier creditOpening openingBy opening tenorOn putSeed putFirst farEnough isNear comingTwentieth putComing putTwentieth second closingDay putClosing closing opened shut forwardEnd forwardFrom forward generateBy generate thirdWednesday moved each between onFirst onLast onMiddle wednesdaysBy wednesdays unless firstMove lastMove monthEndMove middleMove seedAsked seedAtEnd adjustments meetAtEnd mergeEndIf mergeEnd meetAtFront mergeFrontIf mergeFront finish stepsOf admitted buildOf
+unfolding ruleNumber oneOf isZero isBackward daysFrom asked builds need then leap rowOf monthLength gone sumTo dayNumber guess yearsGone monthIn dayIn placeOf fieldsAt weekdayOf daysUntil inBook withinSpan makeOf lastOfMonth monthIndex inMonth step shiftDays shiftMonths shifted nthWeekdayOf weeklyClosed member isOpen ascending closedOk calendarOk inSpan takenOr firstOpen found sameMonth unlessLeft modified byConvention adjusted lastOpen atMonthEnd towards openSteps endAsked landed addMonths addWeeks byUnit advanced longest tenorOk mainMonth inCycle isImm onTwentieths inImmMonths isCredit isOldCDS ruleUnder isNone ruleInForce tenorUnder tenorInForce paceBy paceOf numberOr firstRow isGiven anchorOk datesOk byRange byImm outOfRange notImm wrongRule firstOutside lastOutside monthendAllowed anchorRows firstRows lastRows rowsUnder inputRows twentiethOf movedIf skipOf toImmMonth nextTwentieth previousTwentieth lastDay seedOf candidateBy candidate isPast unlessSame unlessPast turnOf hasRoom put putUnless putNew onTurn lastTry walk candidates anchorOr putAnchor zeroDates putPenultimate begun ended backwardEnd backwardFrom backward putEarlier creditOpening openingBy opening tenorOn putSeed putFirst farEnough isNear comingTwentieth putComing putTwentieth second closingDay putClosing closing opened shut forwardEnd forwardFrom forward generateBy generate thirdWednesday moved each between onFirst onLast onMiddle wednesdaysBy wednesdays unless firstMove lastMove monthEndMove middleMove seedAsked seedAtEnd adjustments meetAtEnd mergeEndIf mergeEnd meetAtFront mergeFrontIf mergeFront finish stepsOf admitted buildOf
 points = refl
 
 -- length 0 forces Zero, and the tenor in force is 0 years

@@ -1,4 +1,4 @@
--- Document 01, "Sums by hand": all that are marked *, rooms included, as one list and one claim.
+-- Document 01, "Sums by hand": all that are marked *, rooms included, as one list and one claim; the CDS sum as request L3 has it.
 -- Assumes nothing.
 use Prim.Native.Nat.{ℕ}
 use mathlib.Core.Path.{_≡_, refl}
@@ -90,7 +90,7 @@ sums : _≡_ {A = List Sum}
     ∷ built (refused 14)
     ∷ built (given (record { dates = on 2 18 ∷ on 3 20 ∷ on 6 20 ∷ on 9 20 ∷ on 12 20 ∷ []; flags = 0 ∷ 1 ∷ 1 ∷ 1 ∷ []; tries = 4 }))
     ∷ built (given (record { dates = on 2 19 ∷ on 6 20 ∷ on 9 20 ∷ on 12 20 ∷ []; flags = 0 ∷ 1 ∷ 1 ∷ []; tries = 3 }))
-    ∷ built (given (record { dates = on 2 20 ∷ on 6 20 ∷ on 9 20 ∷ on 12 20 ∷ []; flags = 1 ∷ 1 ∷ 1 ∷ []; tries = 3 }))
+    ∷ built (given (record { dates = on 3 20 ∷ on 6 20 ∷ on 9 20 ∷ on 12 20 ∷ []; flags = 1 ∷ 1 ∷ 1 ∷ []; tries = 3 }))
     ∷ day (given (on 3 19))
     ∷ day (given (on 4 16))
     ∷ day (given (on 6 18))

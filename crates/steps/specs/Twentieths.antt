@@ -18,13 +18,14 @@ unfoldable pub movedIf : Bool → Bool → ℕ → ℕ → Answer ℕ
 movedIf true back months day = shiftMonths day back months
 movedIf false back months day = given day
 
--- how many months a month with that remainder by three moves: two from 1, one from 2
-unfoldable pub skipOf : ℕ → ℕ
-skipOf month = (3 - month % 3) % 3
+-- how many months a month lies after the last of March, June, September and December, or before the next
+unfoldable pub skipOf : Bool → ℕ → ℕ
+skipOf true month = month % 3
+skipOf false month = (3 - month % 3) % 3
 
--- on to an IMM month, or back by as many months, which is 000's step and lands in the month before one
+-- back to an IMM month, or on to one
 unfoldable pub toImmMonth : Rule → Bool → ℕ → Answer ℕ
-toImmMonth rule back day = movedIf (inImmMonths rule) back (skipOf (fieldsOf day .month)) day
+toImmMonth rule back day = movedIf (inImmMonths rule) back (skipOf back (fieldsOf day .month)) day
 
 unfoldable pub nextTwentieth : Rule → ℕ → Answer ℕ
 nextTwentieth rule day =

@@ -114,7 +114,7 @@ pub fn next_twentieth(date: Date, rule: Rule) -> Dated
     Dated::Refused(refusal::BOOK)
 }
 
-// The last twentieth on or before the date; for the rules of IMM months as many months further back as the next one lies ahead.
+// The last twentieth on or before the date, for the rules of IMM months that of March, June, September or December.
 pub fn previous_twentieth(date: Date, rule: Rule) -> Dated
     ensures { λ r. ⌜ dated r ≡ previousTwentiethOf rule (date .day) ⌝ }
 {

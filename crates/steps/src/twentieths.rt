@@ -27,10 +27,13 @@ fn moved_if(moves: bool, back: bool, months: u32, day: u32) -> Dated
     Dated::Day(Date { day })
 }
 
-// How many months a month moves: two where its remainder by three is 1, one where it is 2.
-fn skip_of(month: u32) -> u32
-    ensures { λ r. ⌜ r ≡ skipOf month ⌝ }
+// How many months a month lies after the last IMM month, or before the next.
+fn skip_of(back: bool, month: u32) -> u32
+    ensures { λ r. ⌜ r ≡ skipOf back month ⌝ }
 {
+    if back {
+        return month % 3;
+    }
     (3 - month % 3) % 3
 }
 
@@ -38,7 +41,12 @@ fn to_imm_month(rule: Rule, back: bool, day: u32) -> Dated
     ensures { λ r. ⌜ dated r ≡ toImmMonth rule back day ⌝ }
 {
     let f = civil::fields_of(day);
-    moved_if(rules::in_imm_months(rule), back, skip_of(f.month), day)
+    moved_if(
+        rules::in_imm_months(rule),
+        back,
+        skip_of(back, f.month),
+        day,
+    )
 }
 
 fn on_to_imm_month(twentieth: Dated, rule: Rule, back: bool) -> Dated
