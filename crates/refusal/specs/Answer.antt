@@ -1,8 +1,8 @@
 -- What a function of document 01 answers: the value that it gives, or the number of a refusal.
 -- Assumes nothing.
 use Prim.Native.Nat.{ℕ}
-use mathlib.Core.Bool.{Bool, true, false, _&&_}
-use lib.Dec.{leb}
+use mathlib.Core.Bool.{Bool, true, false, _&&_, _||_}
+use lib.Dec.{eqb, leb}
 
 pub data Answer (A : Type 0) : Type 0 where
   given : A → Answer A
@@ -60,6 +60,10 @@ CODE = 16
 abbrev pub REQUEST : ℕ
 REQUEST = 17
 
+-- the question for a coming date alone: the request is not of the kind that it answers
+abbrev pub NOTPLAIN : ℕ
+NOTPLAIN = 19
+
 -- document 01's number for an answer: 0 is no refusal
 unfoldable pub number : {A : Type 0} → Answer A → ℕ
 number (given a) = 0
@@ -75,6 +79,6 @@ unfoldable pub then : {A B : Type 0} → Answer A → (A → Answer B) → Answe
 then (given a) f = f a
 then (refused n) f = refused n
 
--- the numbers of the table's rows
+-- the numbers of the table's rows; 18 is none
 abbrev pub inTable : ℕ → Bool
-inTable n = leb UNEVEN n && leb n REQUEST
+inTable n = eqb n NOTPLAIN || (leb UNEVEN n && leb n REQUEST)

@@ -36,9 +36,15 @@ pub const CODE: u8 = 16;
 
 pub const REQUEST: u8 = 17;
 
-// Whether `n` is the number of a row of document 01's table; 0 is no refusal.
+// Of the question for a coming date alone: the request is not of the kind that it answers.
+pub const NOTPLAIN: u8 = 19;
+
+// Whether `n` is the number of a row of the table; 0 is no refusal, and 18 is no row.
 pub fn is_refusal(n: u8) -> bool
     ensures { λ r. ⌜ r ≡ inTable n ⌝ }
 {
+    if n == NOTPLAIN {
+        return true;
+    }
     UNEVEN <= n && n <= REQUEST
 }
