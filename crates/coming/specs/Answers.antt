@@ -19,10 +19,10 @@ use Rattle.steps.specs.declared.Rule.the-variants.{Zero, Backward, Forward, CDS
 use Rattle.steps.specs.declared.Request.{Request}
 use Rattle.steps.specs.Rules.{ruleNumber, isBackward}
 use Rattle.steps.specs.Table.{numberOr, firstRow, anchorOk, datesOk}
-use Rattle.plain.specs.Asked.{isUnadjusted}
+use Rattle.plain.specs.Asked.{isUnadjusted, isStraight}
 use Rattle.plain.specs.Mosts.{monthsBetween, mostBy}
 use Rattle.plain.specs.MostOn.{mostOnBy}
-use Rattle.coming.specs.Coming.{Comes, begins, comes, none-comes, isStraight, askedRows, onOr, comesForward, flagBy, comesBackward, comesAfter, unlessRefused, comingOf}
+use Rattle.coming.specs.Coming.{Comes, begins, comes, none-comes, isDirect, askedRows, onOr, comesForward, flagBy, comesBackward, comesAfter, unlessRefused, comingOf}
 
 abbrev on : ℕ → ℕ → ℕ
 on month day = dayNumber 2025 month day
@@ -153,5 +153,5 @@ worked : _≡_ {A = List (Answer Comes)}
     ∷ given (comes (on 3 31) 0)
     ∷ given (comes (on 3 31) 1)
     ∷ [])
-unfolding trade T adjusting anchored at-month-end asked need leap rowOf monthLength gone sumTo dayNumber guess yearsGone monthIn dayIn placeOf fieldsAt inBook withinSpan makeOf monthIndex inMonth step shiftDays shiftMonths shifted ascending closedOk calendarOk longest tenorOk ruleNumber isBackward numberOr firstRow anchorOk datesOk isUnadjusted monthsBetween mostBy mostOnBy isStraight askedRows onOr comesForward flagBy comesBackward comesAfter unlessRefused comingOf
+unfolding trade T adjusting anchored at-month-end asked need leap rowOf monthLength gone sumTo dayNumber guess yearsGone monthIn dayIn placeOf fieldsAt inBook withinSpan makeOf monthIndex inMonth step shiftDays shiftMonths shifted ascending closedOk calendarOk longest tenorOk ruleNumber isBackward numberOr firstRow anchorOk datesOk isUnadjusted monthsBetween mostBy mostOnBy isDirect isStraight askedRows onOr comesForward flagBy comesBackward comesAfter unlessRefused comingOf
 worked = refl

@@ -16,7 +16,7 @@ use Rattle.steps.specs.declared.Rule.{Rule}
 use Rattle.steps.specs.declared.Request.{Request}
 use Rattle.steps.specs.Rules.{ruleNumber, isBackward}
 use Rattle.steps.specs.Table.{Row, row, firstRow, datesOk}
-use Rattle.plain.specs.Asked.{isUnadjusted, isPositive}
+use Rattle.plain.specs.Asked.{isStraight}
 use Rattle.plain.specs.Demand.{tenorsBefore, tenorCount}
 use Rattle.plain.specs.Forward.{tenorsAfter}
 use Rattle.plain.specs.Falling.{dayOr}
@@ -35,17 +35,12 @@ abbrev pub pickC : Bool → Comes → Comes → Comes
 pickC true a b = a
 pickC false a b = b
 
--- ---- the requests that it answers, by their fields: Backward (rule 1) or Forward (2), positive tenor, no anchors, both conventions Unadjusted, end of
--- month off, effective before termination
-abbrev pub isDirect : Rule → Bool
+-- ---- the requests that it answers, by their fields: Backward (rule 1) or Forward (2), and straight
+unfoldable pub isDirect : Rule → Bool
 isDirect rule = eqb (ruleNumber rule) 1 || eqb (ruleNumber rule) 2
 
-unfoldable pub isStraight : Request → Bool
-isStraight q =
-    isDirect (q .rule) && (isPositive (q .tenor .length)
-    && (isUnadjusted (q .convention) && (isUnadjusted (q .terminal)
-    && (not (q .monthend) && (eqb (q .first .day) 0 && (eqb (q .penultimate .day) 0
-    && ltb (q .effective .day) (q .termination .day)))))))
+abbrev pub isAnswered : Request → Bool
+isAnswered q = isDirect (q .rule) && isStraight q
 
 -- ---- its table, in its order; x is the asked day
 unfoldable pub askedRows : Request → List ℕ → ℕ → List Row
@@ -54,7 +49,7 @@ askedRows q closed x =
     ∷ row CALENDAR (not (calendarOk (q .mask) closed))
     ∷ row NEGATIVE (isNegative (q .tenor .length))
     ∷ row TENOR (not (tenorOk (natAbs (q .tenor .length)) (q .tenor .unit)))
-    ∷ row NOTPLAIN (not (isStraight q))
+    ∷ row NOTPLAIN (not (isAnswered q))
     ∷ []
 
 -- ---- forward, from effective: one tenor more than keep to x, regular, or termination, irregular, where that passes it
@@ -83,8 +78,11 @@ abbrev pub betweenOr : Request → ℕ → Comes → Comes
 betweenOr q x between =
     pickC (ltb x (q .effective .day)) (begins (q .effective .day)) (pickC (leb (q .termination .day) x) none-comes between)
 
+abbrev pub comesBetween : Request → ℕ → Comes
+comesBetween q x = pickC (isBackward (q .rule)) (comesBackward q x) (comesForward q x)
+
 unfoldable pub comesAfter : Request → ℕ → Comes
-comesAfter q x = betweenOr q x (pickC (isBackward (q .rule)) (comesBackward q x) (comesForward q x))
+comesAfter q x = betweenOr q x (comesBetween q x)
 
 unfoldable pub unlessRefused : ℕ → Comes → Answer Comes
 unlessRefused zero a = given a

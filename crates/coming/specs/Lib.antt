@@ -5,3 +5,5 @@ pub mod Straight
 pub mod Forwards
 pub mod Backwards
 pub mod Answers
+pub mod Counted
+pub mod Checked

@@ -2,16 +2,13 @@
 -- Assumes nothing.
 use Prim.Native.Nat.{ℕ}
 use mathlib.Core.Path.{_≡_, refl, subst}
-use mathlib.Core.Bool.{true, false, false≢true, not}
+use mathlib.Core.Bool.{true, false, false≢true}
 use mathlib.Core.Logic.{_⊎_, inl, inr, ⊎-elim}
 use mathlib.Core.List.{List, [], _∷_, _++_}
 use native.Mathlib.Omega.{arith}
-use lib.Dec.{eqb}
-use borrow.Author.Tests.{eqb-true, ltb-true, not-true, not-false}
+use borrow.Author.Tests.{not-false}
 use Rattle.refusal.specs.Laws.{both}
 use Rattle.date.specs.Date.{inBook}
-use Rattle.calendar.specs.declared.Convention.{Convention}
-use Rattle.calendar.specs.declared.Convention.the-variants.{Unadjusted, Following, ModifiedFollowing, Preceding, ModifiedPreceding}
 use Rattle.steps.specs.declared.Rule.{Rule}
 use Rattle.steps.specs.declared.Rule.the-variants.{Zero, Backward, Forward, Twentieth, TwentiethIMM, ThirdWednesday, ThirdWednesdayInclusive, OldCDS, CDS, CDS2015}
 use Rattle.steps.specs.declared.Request.{Request}
@@ -19,17 +16,18 @@ use Rattle.steps.specs.Rules.{ruleNumber}
 use Rattle.steps.specs.Table.{Row, row, datesOk}
 use Rattle.steps.specs.Rows.{Numbered, none, one}
 use Rattle.steps.specs.TableLaws.{NoneHolds, no-row, nor-row, FirstHolds}
-use Rattle.plain.specs.Asked.{isUnadjusted, isPositive}
+use Rattle.plain.specs.Asked.{isStraight}
+use Rattle.plain.specs.Straight.{straight-plain, straight-forward}
 use Rattle.plain.specs.Demand.{Plain, Passes}
 use Rattle.plain.specs.Forward.{PlainForward}
-use Rattle.coming.specs.Coming.{isDirect, isStraight, askedRows}
+use Rattle.coming.specs.Coming.{isDirect, isAnswered, askedRows}
 
 pub data Straight (q : Request) : Type 0 where
   backward : Plain q → Straight q
   forward : PlainForward q → Straight q
 
 direct : (rule : Rule) → isDirect rule ≡ true → (rule ≡ Backward) ⊎ (rule ≡ Forward)
-unfolding ruleNumber
+unfolding isDirect ruleNumber
 direct Zero e = absurd (false≢true e)
 direct Backward e = inl refl
 direct Forward e = inr refl
@@ -41,33 +39,12 @@ direct OldCDS e = absurd (false≢true e)
 direct CDS e = absurd (false≢true e)
 direct CDS2015 e = absurd (false≢true e)
 
-unadjusted : (c : Convention) → isUnadjusted c ≡ true → c ≡ Unadjusted
-unfolding isUnadjusted
-unadjusted Unadjusted e = refl
-unadjusted Following e = absurd (false≢true e)
-unadjusted ModifiedFollowing e = absurd (false≢true e)
-unadjusted Preceding e = absurd (false≢true e)
-unadjusted ModifiedPreceding e = absurd (false≢true e)
-
-straight : (q : Request) → isStraight q ≡ true → Straight q
-unfolding isStraight
+straight : (q : Request) → isAnswered q ≡ true → Straight q
 straight q h =
-    let a = both (isDirect (q .rule)) _ h in
-    let b = both (isPositive (q .tenor .length)) _ (a .1) in
-    let c = both (isUnadjusted (q .convention)) _ (b .1) in
-    let d = both (isUnadjusted (q .terminal)) _ (c .1) in
-    let e = both (not (q .monthend)) _ (d .1) in
-    let f = both (eqb (q .first .day) 0) _ (e .1) in
-    let g = both (eqb (q .penultimate .day) 0) _ (f .1) in
-    let convention = unadjusted (q .convention) (c .0) in
-    let terminal = unadjusted (q .terminal) (d .0) in
-    let monthend = not-true (q .monthend) (e .0) in
-    let first = eqb-true (q .first .day) 0 (f .0) in
-    let penultimate = eqb-true (q .penultimate .day) 0 (g .0) in
-    let order = ltb-true (q .effective .day) (q .termination .day) (g .1) in
+    let a = both (isDirect (q .rule)) (isStraight q) h in
     ⊎-elim
-    (λ (r : q .rule ≡ Backward). backward (record { backward = r; positive = b .0; no-first = first; no-penultimate = penultimate; unadjusted = convention; unadjusted-last = terminal; no-month-end = monthend; order = order }))
-    (λ (r : q .rule ≡ Forward). forward (record { forward = r; positive = b .0; no-first = first; no-penultimate = penultimate; unadjusted = convention; unadjusted-last = terminal; no-month-end = monthend; order = order }))
+    (λ (r : q .rule ≡ Backward). backward (straight-plain q r (a .1)))
+    (λ (r : q .rule ≡ Forward). forward (straight-forward q r (a .1)))
     (direct (q .rule) (a .0))
 
 -- ---- what the rows leave

@@ -2,6 +2,7 @@ pub mod Listed
 pub mod Demand
 pub mod Asked
 pub mod Forward
+pub mod Straight
 pub mod Chain
 pub mod Turns
 pub mod Falling

@@ -1,0 +1,21 @@
+-- What the code takes from the input checks of a build, and what its rows leave of a request.
+-- Assumes nothing.
+use Prim.Native.Nat.{ℕ}
+use mathlib.Core.Path.{_≡_}
+use mathlib.Core.Bool.{Bool, true, not, _&&_}
+use lib.Dec.{eqb, leb}
+use lib.IntN.{natAbs}
+use Rattle.refusal.specs.Answer.{TENOR}
+use Rattle.date.specs.Date.{inBook}
+use Rattle.calendar.specs.Calendar.{tenorOk}
+use Rattle.steps.specs.declared.Request.{Request}
+
+-- the number of a row that is one of the question's too
+unfoldable pub isEarly : ℕ → Bool
+isEarly n = not (eqb n 0) && leb n TENOR
+
+pub record Checked (q : Request) (x : ℕ) : Type 0 where
+  pub tenor : tenorOk (natAbs (q .tenor .length)) (q .tenor .unit) ≡ true
+  pub effective : inBook (q .effective .day) ≡ true
+  pub termination : inBook (q .termination .day) ≡ true
+  pub asked : inBook x ≡ true
