@@ -29,9 +29,10 @@ pub enum Refusal {
     Collapsed = 15,
     Code = 16,
     Request = 17,
+    NotPlain = 19,
 }
 
-const REFUSALS: [(Refusal, &str); 17] = [
+const REFUSALS: [(Refusal, &str); 18] = [
     (Refusal::Uneven, "UNEVEN"),
     (Refusal::Book, "BOOK"),
     (Refusal::Calendar, "CALENDAR"),
@@ -49,7 +50,13 @@ const REFUSALS: [(Refusal, &str); 17] = [
     (Refusal::Collapsed, "COLLAPSED"),
     (Refusal::Code, "CODE"),
     (Refusal::Request, "REQUEST"),
+    (Refusal::NotPlain, "NOTPLAIN"),
 ];
+
+/// The row with a number that the library gives.
+fn row(number: u8) -> (Refusal, &'static str) {
+    *REFUSALS.iter().find(|row| row.0.number() == number).unwrap()
+}
 
 impl Refusal {
     pub fn number(self) -> u8 {
@@ -57,7 +64,7 @@ impl Refusal {
     }
 
     pub fn name(self) -> &'static str {
-        REFUSALS[self as usize - 1].1
+        row(self.number()).1
     }
 }
 
@@ -81,7 +88,7 @@ pub type Answer<T> = Result<T, Refusal>;
 /// What an answer in one number says.
 fn told(answer: i64) -> Answer<i64> {
     if answer < 0 {
-        return Err(REFUSALS[(-answer - 1) as usize].0);
+        return Err(row(-answer as u8).0);
     }
     Ok(answer)
 }
@@ -337,6 +344,17 @@ pub struct Schedule {
     pub unit: Unit,
 }
 
+/// The first date of a schedule after an asked day.
+#[derive(Clone, Copy, Debug, PartialEq, Eq)]
+pub enum Coming {
+    /// The effective date, which ends no period.
+    Effective(Date),
+    /// A date, and whether the period that ends there is regular.
+    Ending { date: Date, regular: bool },
+    /// No later date.
+    Nothing,
+}
+
 /// What a schedule is asked for: Backward, unadjusted and always open unless said.
 #[derive(Clone, Debug)]
 pub struct Request {
@@ -415,6 +433,36 @@ impl Request {
     pub fn room(mut self, room: usize) -> Request {
         self.room = room;
         self
+    }
+
+    /// The first date of the schedule after the asked day, without the schedule. Answers requests that are Backward or Forward,
+    /// unadjusted, without anchors and end of month; others are [`Refusal::NotPlain`].
+    pub fn coming(&self, asked: Date) -> Answer<Coming> {
+        let (closed, closed_len) = self.calendar.lent();
+        let answer = told(unsafe {
+            ffi::heronspan_coming(
+                self.effective.0,
+                self.termination.0,
+                self.tenor,
+                self.unit as u8,
+                self.rule as u8,
+                self.convention as u8,
+                self.terminal as u8,
+                self.monthend as u8,
+                self.first.0,
+                self.penultimate.0,
+                self.calendar.mask,
+                closed,
+                closed_len,
+                asked.0,
+            )
+        })?;
+        let date = Date((answer / 4) as u32);
+        Ok(match (answer, answer % 4) {
+            (0, _) => Coming::Nothing,
+            (_, 2) => Coming::Effective(date),
+            (_, mark) => Coming::Ending { date, regular: mark == 1 },
+        })
     }
 
     pub fn build(&self) -> Answer<Schedule> {

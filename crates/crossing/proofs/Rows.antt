@@ -59,23 +59,23 @@ past [] row h = refl
 past (r ∷ rows) zero h = absurd (omega (arith, h))
 past (r ∷ rows) (suc row) h = past rows row (omega (arith, h))
 
-rows : length names ≡ 17
+rows : length names ≡ 19
 unfolding names
 rows = refl
 
-row-at : (z : ℤ) → SFits w64 z → IsBelow z → rowIn z < 17 → Row z (rowIn z)
+row-at : (z : ℤ) → SFits w64 z → IsBelow z → rowIn z < 19 → Row z (rowIn z)
 unfolding rowIn nameOf
 row-at (pos n) s t h = not-below n s t
 row-at (negsuc n) s t h = record { within = omega (arith, h); name = refl }
 
-row-past : (z : ℤ) → SFits w64 z → IsBelow z → 17 ≤ rowIn z → Row z 17
+row-past : (z : ℤ) → SFits w64 z → IsBelow z → 19 ≤ rowIn z → Row z 19
 unfolding rowIn nameOf
 row-past (pos n) s t h = not-below n s t
-row-past (negsuc n) s t h = record { within = omega arith; name = past names 17 (omega (arith, rows)) ∙ sym (past names n (omega (arith, rows, h))) }
+row-past (negsuc n) s t h = record { within = omega arith; name = past names 19 (omega (arith, rows)) ∙ sym (past names n (omega (arith, rows, h))) }
 
-pub row-none : (z : ℤ) → SFits w64 z → ltZ (toZ w64 (ofZ w64 z)) (pos 0) ≡ false → Row z 17
+pub row-none : (z : ℤ) → SFits w64 z → ltZ (toZ w64 (ofZ w64 z)) (pos 0) ≡ false → Row z 19
 unfolding nameOf
-row-none (pos n) s t = record { within = omega arith; name = past names 17 (omega (arith, rows)) }
+row-none (pos n) s t = record { within = omega arith; name = past names 19 (omega (arith, rows)) }
 row-none (negsuc n) s t = absurd (false≢true (sym t ∙ rw (held (negsuc n) s)))
 
 module _ (z : ℤ) (s : SFits w64 z) (t : IsBelow z) where
@@ -92,23 +92,23 @@ module _ (z : ℤ) (s : SFits w64 z) (t : IsBelow z) where
   pub counted-cast : T (nonNeg (toZ w64 (ofZ w64 counted))) × Fits w64 (natAbs (toZ w64 (ofZ w64 counted)))
   counted-cast = rw same (tt, record { fits = omega (arith, row-fits z s .sfits) })
 
-  pub row-given : ltZ (toZ w64 (ofZ w64 counted)) (pos 17) ≡ true → Row z (natAbs (toZ w64 (ofZ w64 counted)))
-  row-given u = rw same (row-at z s t (ltb-true (rowIn z) 17 (rw same at u)))
+  pub row-given : ltZ (toZ w64 (ofZ w64 counted)) (pos 19) ≡ true → Row z (natAbs (toZ w64 (ofZ w64 counted)))
+  row-given u = rw same (row-at z s t (ltb-true (rowIn z) 19 (rw same at u)))
 
-  pub row-beyond : ltZ (toZ w64 (ofZ w64 counted)) (pos 17) ≡ false → Row z 17
-  row-beyond u = row-past z s t (ltb-false (rowIn z) 17 (rw same at u))
+  pub row-beyond : ltZ (toZ w64 (ofZ w64 counted)) (pos 19) ≡ false → Row z 19
+  row-beyond u = row-past z s t (ltb-false (rowIn z) 19 (rw same at u))
 
 -- ---- a row among the letters
 abbrev pub starts : List ℕ
-starts = 0 ∷ 6 ∷ 10 ∷ 18 ∷ 26 ∷ 31 ∷ 41 ∷ 54 ∷ 70 ∷ 79 ∷ 91 ∷ 106 ∷ 114 ∷ 120 ∷ 124 ∷ 133 ∷ 137 ∷ 144 ∷ 144 ∷ []
+starts = 0 ∷ 6 ∷ 10 ∷ 18 ∷ 26 ∷ 31 ∷ 41 ∷ 54 ∷ 70 ∷ 79 ∷ 91 ∷ 106 ∷ 114 ∷ 120 ∷ 124 ∷ 133 ∷ 137 ∷ 144 ∷ 144 ∷ 152 ∷ 152 ∷ []
 
 pub record Cut (row : ℕ) : Type 0 where
   pub ordered : getD starts row 0 ≤ getD starts (row + 1) 0
-  pub ends : getD starts (row + 1) 0 ≤ 144
+  pub ends : getD starts (row + 1) 0 ≤ 152
   pub few : length (nameAt names row) ≤ 16
   pub name : take (getD starts (row + 1) 0 - getD starts row 0) (drop (getD starts row 0) (joined names)) ≡ nameAt names row
 
-pub cut : (row : ℕ) → row ≤ 17 → Cut row
+pub cut : (row : ℕ) → row ≤ 19 → Cut row
 unfolding names letters joined nameAt
 cut zero h = record { ordered = omega arith; ends = omega arith; few = omega arith; name = refl }
 cut (suc zero) h = record { ordered = omega arith; ends = omega arith; few = omega arith; name = refl }
@@ -128,13 +128,15 @@ cut (suc (suc (suc (suc (suc (suc (suc (suc (suc (suc (suc (suc (suc (suc zero))
 cut (suc (suc (suc (suc (suc (suc (suc (suc (suc (suc (suc (suc (suc (suc (suc zero))))))))))))))) h = record { ordered = omega arith; ends = omega arith; few = omega arith; name = refl }
 cut (suc (suc (suc (suc (suc (suc (suc (suc (suc (suc (suc (suc (suc (suc (suc (suc zero)))))))))))))))) h = record { ordered = omega arith; ends = omega arith; few = omega arith; name = refl }
 cut (suc (suc (suc (suc (suc (suc (suc (suc (suc (suc (suc (suc (suc (suc (suc (suc (suc zero))))))))))))))))) h = record { ordered = omega arith; ends = omega arith; few = omega arith; name = refl }
-cut (suc (suc (suc (suc (suc (suc (suc (suc (suc (suc (suc (suc (suc (suc (suc (suc (suc (suc n)))))))))))))))))) h = absurd (omega (arith, h))
+cut (suc (suc (suc (suc (suc (suc (suc (suc (suc (suc (suc (suc (suc (suc (suc (suc (suc (suc zero)))))))))))))))))) h = record { ordered = omega arith; ends = omega arith; few = omega arith; name = refl }
+cut (suc (suc (suc (suc (suc (suc (suc (suc (suc (suc (suc (suc (suc (suc (suc (suc (suc (suc (suc zero))))))))))))))))))) h = record { ordered = omega arith; ends = omega arith; few = omega arith; name = refl }
+cut (suc (suc (suc (suc (suc (suc (suc (suc (suc (suc (suc (suc (suc (suc (suc (suc (suc (suc (suc (suc n)))))))))))))))))))) h = absurd (omega (arith, h))
 
-joined-length : length (joined names) ≡ 144
+joined-length : length (joined names) ≡ 152
 unfolding names letters joined
 joined-length = refl
 
-module _ (l : List ℕ) (e : l ≡ joined names) (row : ℕ) (h : row ≤ 17) where
+module _ (l : List ℕ) (e : l ≡ joined names) (row : ℕ) (h : row ≤ 19) where
   pub cut-ends : getD starts (row + 1) 0 ≤ length l
   cut-ends = rw e (omega (arith, joined-length, cut row h .ends))
 

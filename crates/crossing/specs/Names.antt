@@ -16,7 +16,7 @@ unfoldable pub letters : String → List ℕ
 letters end = []
 letters (c then s) = code c ∷ letters s
 
--- the rows of the table, from refusal 1 on
+-- the rows of the table, from refusal 1 on; 18 is none, and has no name
 unfoldable pub names : List String
 names =
     "UNEVEN"
@@ -36,6 +36,8 @@ names =
     ∷ "COLLAPSED"
     ∷ "CODE"
     ∷ "REQUEST"
+    ∷ ""
+    ∷ "NOTPLAIN"
     ∷ []
 
 -- the name in a row, which are counted from 0; where there is no row, it is empty
@@ -62,9 +64,9 @@ pub record Spelled (name : List ℕ) (r : ℤ) (text text′ : List ℕ) : Type 
   pub answer : r ≡ oneNumber length (fitting name text)
   pub text-after : text′ ≡ textAfter (fitting name text) text
 
--- ---- what the code has: the names one after the other, and a row of 18, the last one for what is no refusal
+-- ---- what the code has: the names one after the other, and a row of 20, the last one for what is no refusal
 pub record Row (answer : ℤ) (row : ℕ) : Type 0 where
-  pub within : row ≤ 17
+  pub within : row ≤ 19
   pub name : nameAt names row ≡ nameOf answer
 
 unfoldable pub joined : List String → List ℕ

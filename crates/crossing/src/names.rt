@@ -7,7 +7,7 @@ ghost use Rattle.crossing.specs.Names.{names, joined, nameAt, nameOf, Sp
 use crate::answers;
 
 // Where the name of each row starts, and behind them where the last one ends; the last row is empty.
-const STARTS: [usize; 19] = [
+const STARTS: [usize; 21] = [
     0,
     6,
     10,
@@ -27,6 +27,8 @@ const STARTS: [usize; 19] = [
     137,
     144,
     144,
+    152,
+    152,
 ];
 
 // The row of the refusal that an answer gives; the last row where it gives none.
@@ -35,12 +37,12 @@ fn row_of(answer: i64) -> usize
 {
     if answer < 0 {
         let row = -(answer + 1);
-        if row < 17 {
+        if row < 19 {
             return row as usize;
         }
-        return 17;
+        return 19;
     }
-    17
+    19
 }
 
 fn put_letters(name: &[u8], text: &mut [u8])
@@ -67,7 +69,7 @@ fn put_name(name: &[u8], text: &mut [u8]) -> i64
 
 // `letters` has the names of all rows, one after the other.
 fn put_row(letters: &[u8], row: usize, text: &mut [u8]) -> i64
-    requires { ⌜ (now letters ≡ joined names) × (row ≤ 17) ⌝ }
+    requires { ⌜ (now letters ≡ joined names) × (row ≤ 19) ⌝ }
     ensures { λ r. ⌜ Spelled (nameAt names row) r (now (text .entry)) (now (text .exit)) ⌝ }
 {
     let from = STARTS[row];
@@ -82,7 +84,7 @@ pub fn put_refusal(answer: i64, text: &mut [u8]) -> i64
 {
     let row = row_of(answer);
     put_row(
-        b"UNEVENBOOKCALENDARNEGATIVETENORFIRST_DATEFIRST_NOT_IMMFIRST_WRONG_RULELAST_DATELAST_NOT_IMMLAST_WRONG_RULEMONTHENDCLOSEDROOMCOLLAPSEDCODEREQUEST",
+        b"UNEVENBOOKCALENDARNEGATIVETENORFIRST_DATEFIRST_NOT_IMMFIRST_WRONG_RULELAST_DATELAST_NOT_IMMLAST_WRONG_RULEMONTHENDCLOSEDROOMCOLLAPSEDCODEREQUESTNOTPLAIN",
         row,
         text,
     )
