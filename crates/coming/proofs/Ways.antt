@@ -3,45 +3,49 @@
 use Prim.Native.Nat.{ℕ, zero, suc, _+_, _≤_, _<_}
 use mathlib.Core.Path.{_≡_, refl, ap, sym, _∙_}
 use mathlib.Core.Logic.{_⊎_, inl, inr, ⊎-elim}
-use mathlib.Core.Bool.{Bool, true, false, false≢true, not}
+use mathlib.Core.Bool.{Bool, true, false, false≢true, not, _&&_}
 use mathlib.Core.List.{List}
 use native.Mathlib.Numerals.{add-one}
 use native.Mathlib.Omega.{arith}
 use lib.Dec.{eqb, leb}
-use lib.IntN.{natAbs}
+use lib.IntN.{pos, natAbs}
+use lib.Signed.{ltZ}
 use mir.Syntax.{w32}
 use mir.Val.{Fits}
 use borrow.Author.Needs.{needs}
 use borrow.Author.Tests.{ne-eqb, le-leb, lt-leb, le-ltb, lt-ltb, not-true, not-false}
-use Rattle.refusal.specs.Answer.{Answer, given, refused, BOOK, NOTPLAIN}
+use Rattle.refusal.specs.Answer.{Answer, given, refused, BOOK, CALENDAR, TENOR, NOTPLAIN}
 use Rattle.date.specs.declared.Date.{Date}
 use Rattle.date.specs.declared.Dated.{Dated}
 use Rattle.date.specs.declared.Dated.the-variants.{Day, Refused}
 use Rattle.date.specs.Civil.{pickN}
-use Rattle.refusal.specs.Laws.{both}
+use Rattle.refusal.specs.Laws.{both, need-given, never-both, holds}
 use Rattle.period.specs.Signed.{isNegative}
 use Rattle.date.specs.Date.{dated, inBook, monthIndex}
 use Rattle.date.specs.Moves.{book-le}
 use Rattle.calendar.specs.Open.{calendarOk}
-use Rattle.calendar.specs.Calendar.{tenorOk}
+use Rattle.calendar.specs.declared.Checked.{Checked}
+use Rattle.calendar.specs.declared.Checked.the-variants as checked-is
+use Rattle.calendar.specs.Calendar.{sound, checked, checkOf, tenorOk}
 use Rattle.steps.specs.declared.Pace.{Pace}
 use Rattle.steps.specs.declared.Request.{Request}
 use Rattle.steps.specs.declared.Seed.{Seed}
 use Rattle.steps.specs.Candidates.{seedOf, candidate}
 use Rattle.steps.specs.Rules.{ruleInForce, isBackward, paceOf}
-use Rattle.steps.specs.Table.{numberOr, firstRow, datesOk, inputRows}
+use Rattle.steps.specs.Table.{numberOr, firstRow, anchorOk, datesOk, inputRows}
 use Rattle.steps.specs.Rows.{anchorRows, firstRows, lastRows, monthendRows, rowsUnder, input-rows}
 use Rattle.steps.specs.TableLaws.{answer-is-none}
 use Rattle.working.specs.Paces.{pace, pace-checked}
 use Rattle.outcomes.specs.Span.{since}
 use Rattle.plain.specs.Asked.{isStraight}
+use Rattle.plain.specs.Checks.{not-negative}
 use Rattle.plain.specs.Falling.{dayOr}
 use Rattle.coming.specs.declared.Coming.{Coming}
 use Rattle.coming.specs.declared.Coming.the-variants as coming
 use Rattle.coming.specs.Coming.{Comes, begins, comes, none-comes, pickC, isDirect, isAnswered, askedRows, onOr, flagBy, comesBackward, comesForward, comesBetween, comesAfter, unlessRefused, comingOf, meant}
-use Rattle.coming.specs.Counted.{tenorsFrom, behindOf, aheadOf, behind-is, ahead-is, Booked}
-use Rattle.coming.specs.Straight.{asked-numbered, answerable}
-use Rattle.coming.specs.Checked.{isEarly, Checked}
+use Rattle.coming.specs.Counted.{tenorsFrom, behindOf, aheadOf, behind-is, ahead-is, Booked, SeedIn, behind-in, ahead-in}
+use Rattle.coming.specs.Straight.{Straight, backward, forward, straight, asked-numbered, answerable}
+use Rattle.coming.specs.Checked.{isEarly, leftRows, Passed}
 use Rattle.coming.proofs.Counting.{tenors-few}
 
 -- ---- the class, and the rows of a build that are the question's too
@@ -106,6 +110,74 @@ module _ (pace : Pace) (seed : Seed) (x : ℕ) (b : Booked seed x) (k : ℕ) whe
   ahead-meant t a r h c m = m ∙ ap (λ (z : Answer ℕ). given (onOr z t)) (c ∙ ap (candidate false pace seed) (add-one k ∙ ap suc h))
 
 pub ruleset from-seed = (more-behind, more-ahead, behind-meant, ahead-meant, needs)
+
+-- ---- the calendar, and the rows that are left of an answered request
+module _ (answer : Checked) (mask : ℕ) (closed : List ℕ) (h : checked answer ≡ checkOf mask closed) where
+  pub is-sound : answer ≡ checked-is.Sound → true ≡ calendarOk mask closed
+  unfolding checked checkOf
+  is-sound e = sym (need-given CALENDAR (calendarOk mask closed) (given sound) sound (sym h ∙ ap checked e) .0)
+
+  pub is-unsound : (n : ℕ) → answer ≡ checked-is.Refused n → false ≡ calendarOk mask closed
+  unfolding checked checkOf
+  is-unsound n e = by (calendarOk mask closed) refl
+    where
+      by : (b : Bool) → calendarOk mask closed ≡ b → false ≡ b
+      by false e′ = refl
+      by true e′ = absurd (never-both (checked answer) sound n (h ∙ sym (holds CALENDAR (calendarOk mask closed) (given sound) (given sound) e′ refl)) (ap checked e))
+
+module _ (q : Request) (closed : List ℕ) where
+  pub no-effective : (t : Bool) → t ≡ inBook (q .effective .day) → not t ≡ true → BOOK ≡ firstRow (leftRows q closed)
+  unfolding leftRows firstRow numberOr
+  no-effective t h e = rw (sym h ∙ not-true t e)
+
+  module _ (t : Bool) (h : t ≡ inBook (q .effective .day)) (e : not t ≡ false) where
+    pub no-termination : (u : Bool) → u ≡ inBook (q .termination .day) → not u ≡ true → BOOK ≡ firstRow (leftRows q closed)
+    unfolding leftRows firstRow numberOr
+    no-termination u i f = rw (sym h ∙ not-false t e, sym i ∙ not-true u f)
+
+    module _ (u : Bool) (i : u ≡ inBook (q .termination .day)) (f : not u ≡ false) where
+      pub no-calendar : (v : Bool) → v ≡ calendarOk (q .mask) closed → not v ≡ true → CALENDAR ≡ firstRow (leftRows q closed)
+      unfolding leftRows firstRow numberOr
+      no-calendar v j g = rw (sym h ∙ not-false t e, sym i ∙ not-false u f, sym j ∙ not-true v g)
+
+      module _ (v : Bool) (j : v ≡ calendarOk (q .mask) closed) (g : not v ≡ false) (w : Bool) (k : w ≡ tenorOk (natAbs (q .tenor .length)) (q .tenor .unit)) where
+        pub all-left : w ≡ true → 0 ≡ firstRow (leftRows q closed)
+        unfolding leftRows firstRow numberOr
+        all-left l = rw (sym h ∙ not-false t e, sym i ∙ not-false u f, sym j ∙ not-false v g, sym k ∙ l)
+
+        pub no-tenor : w ≡ false → TENOR ≡ firstRow (leftRows q closed)
+        unfolding leftRows firstRow numberOr
+        no-tenor l = rw (sym h ∙ not-false t e, sym i ∙ not-false u f, sym j ∙ not-false v g, sym k ∙ l)
+
+pub ruleset left-tests = (is-sound, is-unsound, no-effective, no-termination, no-calendar, all-left, no-tenor, needs)
+
+-- for such a request they are the question's
+five : Bool → Bool → Bool → Bool → Bool → Bool → Bool → Bool → Bool → ℕ
+five x e t f p c n d a =
+    numberOr (not (x && (e && (t && (f && p))))) 2 (numberOr (not c) 3 (numberOr n 4 (numberOr (not d) 5 (numberOr (not a) 19 0))))
+
+left-five : (e t c d : Bool) → numberOr (not e) 2 (numberOr (not t) 2 (numberOr (not c) 3 (numberOr (not d) 5 0))) ≡ five true e t true true c false d true
+unfolding five numberOr
+left-five true true c d = refl
+left-five true false c d = refl
+left-five false t c d = refl
+
+no-anchor : (n : ℕ) → n ≡ 0 → anchorOk n ≡ true
+unfolding anchorOk
+no-anchor n e = rw e
+
+left-are : (q : Request) (closed : List ℕ) (x : ℕ) → inBook x ≡ true → isAnswered q ≡ true → firstRow (leftRows q closed) ≡ firstRow (askedRows q closed x)
+unfolding leftRows askedRows firstRow datesOk five
+left-are q closed x b a = by (straight q a)
+  where
+    told : q .first .day ≡ 0 → q .penultimate .day ≡ 0 → ltZ (pos 0) (q .tenor .length) ≡ true → firstRow (leftRows q closed) ≡ firstRow (askedRows q closed x)
+    told f p n =
+        left-five (inBook (q .effective .day)) (inBook (q .termination .day)) (calendarOk (q .mask) closed) (tenorOk (natAbs (q .tenor .length)) (q .tenor .unit))
+        ∙ (λ i. five (sym b i) (inBook (q .effective .day)) (inBook (q .termination .day)) (sym (no-anchor (q .first .day) f) i) (sym (no-anchor (q .penultimate .day) p) i) (calendarOk (q .mask) closed) (sym (not-negative (q .tenor .length) n) i) (tenorOk (natAbs (q .tenor .length)) (q .tenor .unit)) (sym a i))
+
+    by : Straight q → firstRow (leftRows q closed) ≡ firstRow (askedRows q closed x)
+    by (backward s) = told (s .no-first) (s .no-penultimate) (s .positive)
+    by (forward s) = told (s .no-first) (s .no-penultimate) (s .positive)
 
 -- ---- the rows: those of a build with equal lent lengths, up to 5, then the question's own
 -- the four rows before others: one of them is the first that holds, or the others are looked at
@@ -172,40 +244,56 @@ module _ (q : Request) (closed : List ℕ) (x : ℕ) where
     passed-row : (a : Bool) → p ≡ false → a ≡ isAnswered q → numberOr (not a) NOTPLAIN 0 ≡ firstRow (askedRows q closed x)
     passed-row a f i = ap (λ (z : Bool). numberOr (not z) NOTPLAIN 0) i ∙ four-passed _ _ _ _ later _ (early-is ∙ f) ∙ sym (asked-rows in-book)
 
-    pub answered-row : (a : Bool) → p ≡ false → a ≡ isAnswered q → a ≡ true → 0 ≡ firstRow (askedRows q closed x)
-    unfolding numberOr
-    answered-row a f i g = ap (λ (z : Bool). numberOr (not z) NOTPLAIN 0) (sym g) ∙ passed-row a f i
-
     pub other-row : (a : Bool) → p ≡ false → a ≡ isAnswered q → a ≡ false → NOTPLAIN ≡ firstRow (askedRows q closed x)
     unfolding numberOr
     other-row a f i g = ap (λ (z : Bool). numberOr (not z) NOTPLAIN 0) (sym g) ∙ passed-row a f i
 
-pub ruleset asked-tests = (not-booked, early-row, answered-row, other-row, needs)
+  -- an answered request: its anchors are 0 and its tenor is positive
+  pub left-rows : (t a : Bool) (n : ℕ) → t ≡ inBook x → not t ≡ false → a ≡ isAnswered q → a ≡ true → n ≡ firstRow (leftRows q closed) → n ≡ firstRow (askedRows q closed x)
+  left-rows t a n b e i g h = h ∙ left-are q closed x (sym b ∙ not-false t e) (sym i ∙ g)
+
+pub ruleset asked-tests = (not-booked, early-row, other-row, left-rows, needs)
+
+-- ---- a seed for days or for months
+pub seed-months : (monthly : Bool) (day : ℕ) (seed : Seed) → monthly ≡ true → seed ≡ seedOf false day → SeedIn monthly day seed
+unfolding seedOf
+seed-months monthly day seed e h =
+    record { day-is = ap (λ (s : Seed). s .day) h; whole = λ _. h; no-month = λ f. absurd (false≢true (sym f ∙ e)) }
+
+pub seed-days : (monthly : Bool) (day : ℕ) → monthly ≡ false → SeedIn monthly day (record { day = day; month = 0; keep = 0 })
+seed-days monthly day e = record { day-is = refl; whole = λ f. absurd (false≢true (sym e ∙ f)); no-month = λ _. refl }
+
+month-at : (day : ℕ) (seed : Seed) → seed ≡ seedOf false day → seed .month ≡ monthIndex day
+unfolding seedOf
+month-at day seed h = ap (λ (s : Seed). s .month) h
 
 -- ---- between the dates, and the whole answer
-module _ (q : Request) (x : ℕ) (c : Checked q x) where
-  book-seed : (day : ℕ) (seed : Seed) → inBook day ≡ true → seed ≡ seedOf false day → Booked seed x
-  unfolding seedOf
-  book-seed day seed b e =
-      let d : seed .day ≡ day = ap (λ (s : Seed). s .day) e in
-      let m : seed .month ≡ monthIndex day = ap (λ (s : Seed). s .month) e in
-      record { day = omega (arith, book-le day b); month = omega (arith, since day b .1); asked = book-le x (c .asked) }
+module _ (q : Request) (x : ℕ) (c : Passed q x) where
+  module _ (p : Pace) (paced : p ≡ pace (q .tenor)) (seed : Seed) where
+    book-seed : (day : ℕ) → inBook day ≡ true → SeedIn (p .monthly) day seed → Booked seed x
+    book-seed day b s = record { day = omega (arith, book-le day b, s .day-is); month = by (p .monthly) refl; asked = book-le x (c .asked) }
+      where
+        by : (m : Bool) → p .monthly ≡ m → seed .month ≤ 26399
+        by false e = omega (arith, s .no-month e)
+        by true e = omega (arith, since day b .1, month-at day seed (s .whole e))
 
-  pub back-booked : (seed : Seed) → seed ≡ seedOf false (q .termination .day) → Booked seed x
-  back-booked seed e = book-seed (q .termination .day) seed (c .termination) e
+    pub back-booked : SeedIn (p .monthly) (q .termination .day) seed → Booked seed x
+    back-booked s = book-seed (q .termination .day) (c .termination) s
 
-  pub on-booked : (seed : Seed) → seed ≡ seedOf false (q .effective .day) → Booked seed x
-  on-booked seed e = book-seed (q .effective .day) seed (c .effective) e
+    pub on-booked : SeedIn (p .monthly) (q .effective .day) seed → Booked seed x
+    on-booked s = book-seed (q .effective .day) (c .effective) s
 
-  module _ (p : Pace) (paced : p ≡ pace (q .tenor)) (seed : Seed) (t : Bool) (u : t ≡ isBackward (q .rule)) (r : Coming) where
     is-paced : p ≡ paceOf (q .tenor)
     is-paced = paced ∙ pace-checked (q .tenor) (c .tenor)
 
-    pub goes-back : t ≡ true → seed ≡ seedOf false (q .termination .day) → meant r ≡ given (behindOf p seed (q .effective .day) x) → meant r ≡ given (comesBetween q x)
-    goes-back e s m = m ∙ (λ i. given (behindOf (is-paced i) (s i) (q .effective .day) x)) ∙ ap given (behind-is q x ∙ ap (λ (b : Bool). pickC b (comesBackward q x) (comesForward q x)) (sym e ∙ u))
+    module _ (t : Bool) (u : t ≡ isBackward (q .rule)) (r : Coming) where
+      pub goes-back : t ≡ true → SeedIn (p .monthly) (q .termination .day) seed → meant r ≡ given (behindOf p seed (q .effective .day) x) → meant r ≡ given (comesBetween q x)
+      goes-back e s m =
+          m ∙ ap given (behind-in p (q .termination .day) seed s (q .effective .day) x ∙ ap (λ (z : Pace). behindOf z (seedOf false (q .termination .day)) (q .effective .day) x) is-paced ∙ behind-is q x ∙ ap (λ (b : Bool). pickC b (comesBackward q x) (comesForward q x)) (sym e ∙ u))
 
-    pub goes-on : t ≡ false → seed ≡ seedOf false (q .effective .day) → meant r ≡ given (aheadOf p seed (q .termination .day) x) → meant r ≡ given (comesBetween q x)
-    goes-on e s m = m ∙ (λ i. given (aheadOf (is-paced i) (s i) (q .termination .day) x)) ∙ ap given (ahead-is q x ∙ ap (λ (b : Bool). pickC b (comesBackward q x) (comesForward q x)) (sym e ∙ u))
+      pub goes-on : t ≡ false → SeedIn (p .monthly) (q .effective .day) seed → meant r ≡ given (aheadOf p seed (q .termination .day) x) → meant r ≡ given (comesBetween q x)
+      goes-on e s m =
+          m ∙ ap given (ahead-in p (q .effective .day) seed s (q .termination .day) x ∙ ap (λ (z : Pace). aheadOf z (seedOf false (q .effective .day)) (q .termination .day) x) is-paced ∙ ahead-is q x ∙ ap (λ (b : Bool). pickC b (comesBackward q x) (comesForward q x)) (sym e ∙ u))
 
 pub ruleset between-ways = (back-booked, on-booked, goes-back, goes-on, needs)
 
@@ -243,9 +331,9 @@ module _ (q : Request) (closed : List ℕ) (x n : ℕ) (h : n ≡ firstRow (aske
     pub is-between : (r : Coming) → q .effective .day ≤ x → x < q .termination .day → meant r ≡ given (comesBetween q x) → meant r ≡ comingOf q closed x
     is-between r l i m = is-given r (m ∙ ap (λ (b : Bool). given (pickC b none-comes (comesBetween q x))) (sym (lt-leb (q .termination .day) x i)) ∙ not-before l)
 
-    pub checked : Checked q x
-    checked =
+    pub passed : Passed q x
+    passed =
         let a = answerable q closed x (answer-is-none (asked-numbered q closed x) (sym h ∙ z)) in
         record { tenor = a .passes .tenor-short; effective = a .passes .effective-in-book; termination = a .passes .termination-in-book; asked = a .day-in-book }
 
-pub ruleset after-ways = (is-refused, is-first, is-none, is-between, checked, needs)
+pub ruleset after-ways = (is-refused, is-first, is-none, is-between, passed, needs)

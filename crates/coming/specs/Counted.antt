@@ -5,15 +5,16 @@ use Prim.Native.Nat.{ℕ, suc, _+_, _-_, _*_, _/_, _≤_}
 use mathlib.Core.Path.{_≡_, refl, ap, sym, _∙_}
 use mathlib.Core.Bool.{Bool, true, false}
 use native.Mathlib.Nat.{one-mul}
+use Rattle.refusal.specs.Answer.{Answer}
 use Rattle.period.specs.declared.Unit.{Unit as TimeUnit}
 use Rattle.period.specs.declared.Unit.the-variants.{Days, Weeks, Months, Years}
 use Rattle.date.specs.Civil.{pickN}
-use Rattle.date.specs.Date.{monthIndex, inMonth, step, shiftMonths, shifted}
+use Rattle.date.specs.Date.{withinSpan, monthIndex, inMonth, step, shiftMonths, shifted}
 use Rattle.steps.specs.declared.Request.{Request}
 use Rattle.steps.specs.declared.Pace.{Pace}
 use Rattle.steps.specs.declared.Seed.{Seed}
 use Rattle.steps.specs.Rules.{paceBy, paceOf}
-use Rattle.steps.specs.Candidates.{seedOf, candidate, isPast}
+use Rattle.steps.specs.Candidates.{seedOf, candidateBy, candidate, isPast}
 use Rattle.plain.specs.Demand.{tenorLength, tenorsBefore, countOf, tenorCount}
 use Rattle.plain.specs.Forward.{tenorsAfter}
 use Rattle.plain.specs.Falling.{dayOr}
@@ -103,3 +104,43 @@ pub record Booked (seed : Seed) (x : ℕ) : Type 0 where
   pub day : seed .day ≤ 803168
   pub month : seed .month ≤ 26399
   pub asked : x ≤ 803168
+
+-- ---- a seed whose month is worked out only where it is asked for
+pub record SeedIn (monthly : Bool) (day : ℕ) (seed : Seed) : Type 0 where
+  pub day-is : seed .day ≡ day
+  pub whole : monthly ≡ true → seed ≡ seedOf false day
+  pub no-month : monthly ≡ false → seed .month ≡ 0
+
+module _ (back : Bool) (pace : Pace) (day : ℕ) (seed : Seed) (s : SeedIn (pace .monthly) day seed) where
+  candidate-by : (k : ℕ) (b : Bool) → pace .monthly ≡ b → candidateBy b back seed k ≡ candidateBy b back (seedOf false day) k
+  unfolding candidateBy seedOf
+  candidate-by k false e = ap (λ (d : ℕ). withinSpan (step back d k)) (s .day-is)
+  candidate-by k true e = ap (λ (z : Seed). inMonth (step back (z .month) k) (z .keep)) (s .whole e)
+
+  candidate-in : (k : ℕ) → candidate back pace seed k ≡ candidate back pace (seedOf false day) k
+  unfolding candidate
+  candidate-in k = candidate-by (k * pace .size) (pace .monthly) refl
+
+  most-by : (near : ℕ) (b : Bool) → pace .monthly ≡ b → mostFrom back b seed near ≡ mostFrom back b (seedOf false day) near
+  unfolding mostFrom seedOf
+  most-by near false e = ap (λ (d : ℕ). apart back d near) (s .day-is)
+  most-by near true e = ap (λ (z : Seed). mostMonths back z near) (s .whole e)
+
+  tenors-in : (near : ℕ) → tenorsFrom back pace seed near ≡ tenorsFrom back pace (seedOf false day) near
+  tenors-in near = ap (λ (n : ℕ). n / pace .size) (most-by near (pace .monthly) refl)
+
+  -- so of the candidate that a count of tenors leads to
+  at-tenors : (near : ℕ) (f : ℕ → ℕ) → candidate back pace seed (f (tenorsFrom back pace seed near)) ≡ candidate back pace (seedOf false day) (f (tenorsFrom back pace (seedOf false day) near))
+  at-tenors near f = candidate-in (f (tenorsFrom back pace seed near)) ∙ ap (λ (k : ℕ). candidate back pace (seedOf false day) (f k)) (tenors-in near)
+
+module _ (pace : Pace) (day : ℕ) (seed : Seed) (s : SeedIn (pace .monthly) day seed) (other x : ℕ) where
+  pub behind-in : behindOf pace seed other x ≡ behindOf pace (seedOf false day) other x
+  unfolding behindOf
+  behind-in =
+      let a = at-tenors true pace day seed s (x + 1) (λ k. k) in
+      let b = at-tenors true pace day seed s (x + 1) suc in
+      λ i. comes (dayOr (a i)) (flagBy (b i) other)
+
+  pub ahead-in : aheadOf pace seed other x ≡ aheadOf pace (seedOf false day) other x
+  unfolding aheadOf
+  ahead-in = ap (λ (z : Answer ℕ). onOr z other) (at-tenors false pace day seed s x suc)

@@ -39,7 +39,7 @@ direct OldCDS e = absurd (false≢true e)
 direct CDS e = absurd (false≢true e)
 direct CDS2015 e = absurd (false≢true e)
 
-straight : (q : Request) → isAnswered q ≡ true → Straight q
+pub straight : (q : Request) → isAnswered q ≡ true → Straight q
 straight q h =
     let a = both (isDirect (q .rule)) (isStraight q) h in
     ⊎-elim

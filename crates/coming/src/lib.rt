@@ -3,13 +3,19 @@ ghost use mathlib.Core.Path.{_≡_};
 ghost use Rattle.refusal.specs.Answer.{given};
 ghost use Rattle.date.specs.Civil.{pickN};
 ghost use Rattle.date.specs.Date.{dated};
+ghost use lib.IntN.{natAbs};
+ghost use Rattle.calendar.specs.Open.{calendarOk};
+ghost use Rattle.calendar.specs.Calendar.{tenorOk};
 ghost use Rattle.steps.specs.Table.{firstRow};
 ghost use Rattle.coming.specs.Coming.{isDirect, isAnswered, askedRows, onOr, flagBy, comesBetween, comingOf, meant};
-ghost use Rattle.coming.specs.Counted.{behindOf, aheadOf, Booked};
-ghost use Rattle.coming.specs.Checked.{isEarly, Checked};
+ghost use Rattle.coming.specs.Counted.{behindOf, aheadOf, Booked, SeedIn};
+ghost use Rattle.coming.specs.Checked.{isEarly, leftRows, Passed};
+use calendar::Checked;
 use date::Date;
 use date::Dated;
 use date::in_book;
+use period::Period;
+use period::sign;
 use steps::Pace;
 use steps::Request;
 use steps::Rule;
@@ -70,6 +76,42 @@ fn is_early(number: u8) -> bool
     number <= refusal::TENOR
 }
 
+fn is_sound(mask: u8, closed: &[u32]) -> bool
+    ensures { λ r. ⌜ r ≡ calendarOk mask (now (closed .entry)) ⌝ }
+{
+    let answer = calendar::check(mask, closed);
+    match answer {
+        Checked::Sound => true,
+        Checked::Refused(_) => false,
+    }
+}
+
+fn is_short(tenor: Period) -> bool
+    ensures { λ r. ⌜ r ≡ tenorOk (natAbs (tenor .length)) (tenor .unit) ⌝ }
+{
+    let unit = tenor.unit;
+    calendar::is_short(sign::size(tenor.length), unit)
+}
+
+// What is left of the rows for a request that is answered, and an asked day of the book.
+fn left_refusal(q: Request, closed: &[u32]) -> u8
+    ensures { λ r. ⌜ r ≡ firstRow (leftRows q (now (closed .entry))) ⌝ }
+{
+    if !in_book(q.effective.day) {
+        return refusal::BOOK;
+    }
+    if !in_book(q.termination.day) {
+        return refusal::BOOK;
+    }
+    if !is_sound(q.mask, closed) {
+        return refusal::CALENDAR;
+    }
+    if is_short(q.tenor) {
+        return 0;
+    }
+    refusal::TENOR
+}
+
 // The number of the first row that holds, or 0. The rows 2 to 5 are those of a build whose lent lists have one length.
 fn refusal_of(q: Request, closed: &[u32], asked: u32) -> u8
     ensures { λ r. ⌜ r ≡ firstRow (askedRows q (now (closed .entry)) asked) ⌝ }
@@ -77,12 +119,12 @@ fn refusal_of(q: Request, closed: &[u32], asked: u32) -> u8
     if !in_book(asked) {
         return refusal::BOOK;
     }
+    if is_answered(q) {
+        return left_refusal(q, closed);
+    }
     let number = checks::input_refusal(q, closed, 0, 0);
     if is_early(number) {
         return number;
-    }
-    if is_answered(q) {
-        return 0;
     }
     refusal::NOTPLAIN
 }
@@ -144,18 +186,32 @@ fn ahead(pace: Pace, seed: Seed, termination: u32, asked: u32) -> Coming
     on_or(candidates::candidate(false, pace, seed, k + 1), termination)
 }
 
+// A seed for candidates by days or by months; those by days need no month.
+fn seed_in(monthly: bool, day: u32) -> Seed
+    ensures { λ r. ⌜ SeedIn monthly day r ⌝ }
+{
+    if monthly {
+        return seeds::seed_of(false, day);
+    }
+    Seed {
+        day,
+        month: 0,
+        keep: 0,
+    }
+}
+
 // From effective on and before termination.
 fn between(q: Request, asked: u32) -> Coming
-    requires { ⌜ Checked q asked ⌝ }
+    requires { ⌜ Passed q asked ⌝ }
     ensures { λ r. ⌜ meant r ≡ given (comesBetween q asked) ⌝ }
 {
     let rule = q.rule;
     let pace = candidates::pace_of(q.tenor);
     if rules::is_backward(rule) {
-        let seed = seeds::seed_of(false, q.termination.day);
+        let seed = seed_in(pace.monthly, q.termination.day);
         return behind(pace, seed, q.effective.day, asked);
     }
-    let seed = seeds::seed_of(false, q.effective.day);
+    let seed = seed_in(pace.monthly, q.effective.day);
     ahead(pace, seed, q.termination.day, asked)
 }
 

@@ -8,8 +8,8 @@ use Rattle.coming.proofs.between.Reads as reads
 use Rattle.coming.proofs.between.Lts as lts
 use Rattle.coming.proofs.ahead.Reads as ahead-reads
 use Rattle.coming.proofs.behind.Reads as behind-reads
+use Rattle.coming.proofs.seed_in.Reads as seed-in-reads
 use Rattle.steps.proofs.rules.is_backward.Reads as is-backward-reads
-use Rattle.steps.proofs.seeds.seed_of.Reads as seed-of-reads
 use Rattle.working.proofs.candidates.pace_of.Reads as pace-of-reads
 
 pace-of-requires : tie.Need-pace-of-requires
@@ -18,8 +18,8 @@ pace-of-requires c κs = search needs
 is-backward-requires : tie.Need-is-backward-requires
 is-backward-requires c κs = search needs
 
-seed-of-requires : tie.Need-seed-of-requires
-seed-of-requires c κs = search needs
+seed-in-requires : tie.Need-seed-in-requires
+seed-in-requires c κs = search needs
 
 behind-requires : tie.Need-behind-requires
 behind-requires c κs = search between-ways
@@ -27,8 +27,8 @@ behind-requires c κs = search between-ways
 returns : tie.Need-returns
 returns c = search between-ways
 
-seed-of-requires-2 : tie.Need-seed-of-requires-2
-seed-of-requires-2 c κs = search needs
+seed-in-requires-2 : tie.Need-seed-in-requires-2
+seed-in-requires-2 c κs = search needs
 
 ahead-requires : tie.Need-ahead-requires
 ahead-requires c κs = search between-ways
@@ -42,9 +42,9 @@ between-spec =
     (tie.spec
     pace-of-requires
     is-backward-requires
-    seed-of-requires
+    seed-in-requires
     behind-requires
     returns
-    seed-of-requires-2
+    seed-in-requires-2
     ahead-requires
     returns-2)

@@ -9,6 +9,7 @@ use Rattle.coming.proofs.refusal_of.Lts as lts
 use Rattle.checks.proofs.input_refusal.Reads as input-refusal-reads
 use Rattle.coming.proofs.is_answered.Reads as is-answered-reads
 use Rattle.coming.proofs.is_early.Reads as is-early-reads
+use Rattle.coming.proofs.left_refusal.Reads as left-refusal-reads
 use Rattle.date.proofs.in_book.Reads as in-book-reads
 
 in-book-requires : tie.Need-in-book-requires
@@ -17,17 +18,20 @@ in-book-requires c κs = search needs
 returns : tie.Need-returns
 returns c = search asked-tests
 
+is-answered-requires : tie.Need-is-answered-requires
+is-answered-requires c κs = search needs
+
+left-refusal-requires : tie.Need-left-refusal-requires
+left-refusal-requires c κs = search needs
+
+returns-2 : tie.Need-returns-2
+returns-2 c = search asked-tests
+
 input-refusal-requires : tie.Need-input-refusal-requires
 input-refusal-requires c κs = search needs
 
 is-early-requires : tie.Need-is-early-requires
 is-early-requires c κs = search needs
-
-returns-2 : tie.Need-returns-2
-returns-2 c = search asked-tests
-
-is-answered-requires : tie.Need-is-answered-requires
-is-answered-requires c κs = search needs
 
 returns-3 : tie.Need-returns-3
 returns-3 c = search asked-tests
@@ -41,9 +45,10 @@ refusal-of-spec =
     (tie.spec
     in-book-requires
     returns
+    is-answered-requires
+    left-refusal-requires
+    returns-2
     input-refusal-requires
     is-early-requires
-    returns-2
-    is-answered-requires
     returns-3
     returns-4)
