@@ -1,6 +1,6 @@
 -- A law for each way through the functions that count whole tenors.
 -- Assumes nothing.
-use Prim.Native.Nat.{ℕ, _+_, _-_, _/_, _≤_}
+use Prim.Native.Nat.{ℕ, _+_, _-_, _*_, _/_, _≤_, _<_}
 use mathlib.Core.Path.{_≡_, refl, ap, sym, _∙_}
 use mathlib.Core.Bool.{Bool, true, false}
 use native.Mathlib.Nat.{div-zero, div-le-self}
@@ -10,16 +10,17 @@ use borrow.Author.Needs.{needs}
 use Rattle.refusal.specs.Answer.{Answer}
 use Rattle.date.specs.declared.Date.{Date}
 use Rattle.date.specs.declared.Dated.{Dated}
+use Rattle.date.specs.declared.Fields.{Fields}
 use Rattle.date.specs.declared.Dated.the-variants.{Day, Refused}
 use Rattle.date.specs.Civil.{pickN, fieldsOf}
 use Rattle.date.specs.Date.{dated, monthIndex, inMonth, step}
 use Rattle.date.specs.Round.{fields-valid}
-use Rattle.date.specs.Moves.{year-at}
+use Rattle.date.specs.Moves.{valid-at, year-at}
 use Rattle.steps.specs.declared.Pace.{Pace}
 use Rattle.steps.specs.declared.Seed.{Seed}
-use Rattle.steps.specs.Candidates.{seedOf, isPast}
+use Rattle.steps.specs.Candidates.{isPast}
 use Rattle.plain.specs.Falling.{dayOr}
-use Rattle.coming.specs.Counted.{apart, monthsApart, mostMonths, mostFrom, tenorsFrom, Booked}
+use Rattle.coming.specs.Counted.{apart, monthsApart, mostMonths, mostFrom, tenorsFrom, Booked, Counts}
 
 -- ---- by direction
 module _ (back : Bool) (a b : ℕ) where
@@ -50,7 +51,10 @@ module _ (d : Dated) where
   day-none n e = rw e
 
 -- ---- the months between
-module _ (back : Bool) (seed : Seed) (near : ℕ) (at : Seed) (gap : ℕ) (a : Answer ℕ) (day : ℕ) (p : Bool) where
+pub counts : (f : Fields) (n : ℕ) → f ≡ fieldsOf n → n < 4294967296 → Counts f
+counts f n e h = let v = valid-at f n e in record { some = v .month; months = v .twelve; years = omega (arith, year-at f n e) }
+
+module _ (back : Bool) (seed : Seed) (near : ℕ) (f : Fields) (month gap : ℕ) (a : Answer ℕ) (day : ℕ) (p : Bool) where
   abbrev between : ℕ
   between = monthsApart back seed near
 
@@ -58,12 +62,12 @@ module _ (back : Bool) (seed : Seed) (near : ℕ) (at : Seed) (gap : ℕ) (a : A
   tested = isPast back near (dayOr (inMonth (step back (seed .month) between) (seed .keep)))
 
   module _
-      (s : at ≡ seedOf false near) (g : gap ≡ apart back (seed .month) (at .month)) (m : a ≡ inMonth (step back (seed .month) gap) (seed .keep))
+      (s : f ≡ fieldsOf near) (n : month ≡ 12 * f .year + f .month - 1) (g : gap ≡ apart back (seed .month) month) (m : a ≡ inMonth (step back (seed .month) gap) (seed .keep))
       (d : day ≡ dayOr a) (t : p ≡ isPast back near day)
     where
       is-between : gap ≡ between
-      unfolding seedOf
-      is-between = g ∙ ap (λ (x : Seed). apart back (seed .month) (x .month)) s
+      unfolding monthIndex
+      is-between = g ∙ ap (λ (x : ℕ). apart back (seed .month) x) (n ∙ ap (λ (y : Fields). 12 * y .year + y .month - 1) s)
 
       is-tested : tested ≡ p
       is-tested = ap (λ (x : ℕ). isPast back near (dayOr (inMonth (step back (seed .month) x) (seed .keep)))) (sym is-between) ∙ ap (isPast back near) (ap dayOr (sym m) ∙ sym d) ∙ sym t

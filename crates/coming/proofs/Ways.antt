@@ -1,6 +1,6 @@
 -- A law for each way through the question, from its refusals to its answer.
 -- Assumes nothing.
-use Prim.Native.Nat.{ℕ, zero, suc, _+_, _≤_, _<_}
+use Prim.Native.Nat.{ℕ, zero, suc, _+_, _-_, _*_, _≤_, _<_}
 use mathlib.Core.Path.{_≡_, refl, ap, sym, _∙_}
 use mathlib.Core.Logic.{_⊎_, inl, inr, ⊎-elim}
 use mathlib.Core.Bool.{Bool, true, false, false≢true, not, _&&_}
@@ -16,9 +16,10 @@ use borrow.Author.Needs.{needs}
 use borrow.Author.Tests.{ne-eqb, le-leb, lt-leb, le-ltb, lt-ltb, not-true, not-false}
 use Rattle.refusal.specs.Answer.{Answer, given, refused, BOOK, CALENDAR, TENOR, NOTPLAIN}
 use Rattle.date.specs.declared.Date.{Date}
+use Rattle.date.specs.declared.Fields.{Fields}
 use Rattle.date.specs.declared.Dated.{Dated}
 use Rattle.date.specs.declared.Dated.the-variants.{Day, Refused}
-use Rattle.date.specs.Civil.{pickN}
+use Rattle.date.specs.Civil.{pickN, fieldsOf}
 use Rattle.refusal.specs.Laws.{both, need-given, never-both, holds}
 use Rattle.period.specs.Signed.{isNegative}
 use Rattle.date.specs.Date.{dated, inBook, monthIndex}
@@ -255,10 +256,11 @@ module _ (q : Request) (closed : List ℕ) (x : ℕ) where
 pub ruleset asked-tests = (not-booked, early-row, other-row, left-rows, needs)
 
 -- ---- a seed for days or for months
-pub seed-months : (monthly : Bool) (day : ℕ) (seed : Seed) → monthly ≡ true → seed ≡ seedOf false day → SeedIn monthly day seed
-unfolding seedOf
-seed-months monthly day seed e h =
-    record { day-is = ap (λ (s : Seed). s .day) h; whole = λ _. h; no-month = λ f. absurd (false≢true (sym f ∙ e)) }
+pub seed-months : (monthly : Bool) (day : ℕ) (f : Fields) (month : ℕ) → monthly ≡ true → f ≡ fieldsOf day → month ≡ 12 * f .year + f .month - 1 → SeedIn monthly day (record { day = day; month = month; keep = f .day })
+unfolding seedOf monthIndex
+seed-months monthly day f month e h m =
+    let k : month ≡ monthIndex day = m ∙ ap (λ (y : Fields). 12 * y .year + y .month - 1) h in
+    record { day-is = refl; whole = λ _. (λ i. record { day = day; month = k i; keep = h i .day }); no-month = λ g. absurd (false≢true (sym g ∙ e)) }
 
 pub seed-days : (monthly : Bool) (day : ℕ) → monthly ≡ false → SeedIn monthly day (record { day = day; month = 0; keep = 0 })
 seed-days monthly day e = record { day-is = refl; whole = λ f. absurd (false≢true (sym e ∙ f)); no-month = λ _. refl }

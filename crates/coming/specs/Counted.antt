@@ -8,6 +8,7 @@ use native.Mathlib.Nat.{one-mul}
 use Rattle.refusal.specs.Answer.{Answer}
 use Rattle.period.specs.declared.Unit.{Unit as TimeUnit}
 use Rattle.period.specs.declared.Unit.the-variants.{Days, Weeks, Months, Years}
+use Rattle.date.specs.declared.Fields.{Fields}
 use Rattle.date.specs.Civil.{pickN}
 use Rattle.date.specs.Date.{withinSpan, monthIndex, inMonth, step, shiftMonths, shifted}
 use Rattle.steps.specs.declared.Request.{Request}
@@ -144,3 +145,9 @@ module _ (pace : Pace) (day : ℕ) (seed : Seed) (s : SeedIn (pace .monthly) day
   pub ahead-in : aheadOf pace seed other x ≡ aheadOf pace (seedOf false day) other x
   unfolding aheadOf
   ahead-in = ap (λ (z : Answer ℕ). onOr z other) (at-tenors false pace day seed s x suc)
+
+-- ---- fields whose month can be counted
+pub record Counts (f : Fields) : Type 0 where
+  pub some : 1 ≤ f .month
+  pub months : f .month ≤ 12
+  pub years : f .year ≤ 20000000

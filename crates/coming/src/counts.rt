@@ -1,15 +1,16 @@
 // Whole tenors between a seed and a day: one division.
 ghost use mathlib.Core.Path.{_≡_};
-ghost use Prim.Native.Nat.{_-_, _/_};
+ghost use Prim.Native.Nat.{_+_, _-_, _*_, _/_};
 ghost use Rattle.date.specs.Date.{dated};
 ghost use Rattle.steps.specs.Candidates.{isPast};
 ghost use Rattle.plain.specs.Falling.{dayOr};
-ghost use Rattle.coming.specs.Counted.{apart, mostMonths, mostFrom, tenorsFrom};
+ghost use Rattle.coming.specs.Counted.{apart, mostMonths, mostFrom, tenorsFrom, Counts};
 use date::Dated;
+use date::Fields;
+use date::civil;
 use date::span;
 use steps::Pace;
 use steps::Seed;
-use steps::seeds;
 
 fn less(a: u32, b: u32) -> u32
     ensures { λ r. ⌜ r ≡ a - b ⌝ }
@@ -39,12 +40,19 @@ pub(crate) fn day_or(d: Dated) -> u32
     }
 }
 
+// The month of a day, as seeds count it.
+pub(crate) fn month_of(f: Fields) -> u32
+    requires { ⌜ Counts f ⌝ }
+    ensures { λ r. ⌜ r ≡ 12 * f .year + f .month - 1 ⌝ }
+{
+    12 * f.year + f.month - 1
+}
+
 // The months between, one less where the seed's day of that month lies past the day.
 fn most_months(back: bool, seed: Seed, near: u32) -> u32
     ensures { λ r. ⌜ r ≡ mostMonths back seed near ⌝ }
 {
-    let at = seeds::seed_of(false, near);
-    let gap = apart(back, seed.month, at.month);
+    let gap = apart(back, seed.month, month_of(civil::fields_of(near)));
     let day = day_or(span::months_from(seed.month, back, gap, seed.keep));
     if is_past(back, near, day) {
         return less(gap, 1);

@@ -13,6 +13,7 @@ ghost use Rattle.coming.specs.Checked.{isEarly, leftRows, Passed};
 use calendar::Checked;
 use date::Date;
 use date::Dated;
+use date::civil;
 use date::in_book;
 use period::Period;
 use period::sign;
@@ -21,7 +22,6 @@ use steps::Request;
 use steps::Rule;
 use steps::Seed;
 use steps::rules;
-use steps::seeds;
 use working::candidates;
 
 // Whole tenors between a seed and a day.
@@ -191,7 +191,12 @@ fn seed_in(monthly: bool, day: u32) -> Seed
     ensures { λ r. ⌜ SeedIn monthly day r ⌝ }
 {
     if monthly {
-        return seeds::seed_of(false, day);
+        let f = civil::fields_of(day);
+        return Seed {
+            day,
+            month: counts::month_of(f),
+            keep: f.day,
+        };
     }
     Seed {
         day,
