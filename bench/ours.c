@@ -25,6 +25,15 @@ static void build(void *with)
                                 b->calendar.count, dates, PLACES, flags, PLACES, record, RECORD);
 }
 
+static void coming(void *with)
+{
+    struct asked *a = (struct asked *)with;
+    struct build *b = &a->build;
+    a->answer = heronspan_coming(b->effective, b->termination, b->tenor, b->unit, b->rule, b->convention, b->terminal,
+                                 b->monthend, b->first, b->penultimate, b->calendar.mask, b->calendar.closed,
+                                 b->calendar.count, a->day);
+}
+
 static void adjust(void *with)
 {
     struct asked *a = (struct asked *)with;
@@ -87,7 +96,11 @@ static void ask(const char *kind)
             print_schedule(record[3], UNITS[record[5] & 3], record[4], (long)a.answer, dates, flags);
         return;
     }
-    if (strcmp(kind, "adjust") == 0) {
+    if (strcmp(kind, "coming") == 0) {
+        a.day = day();
+        a.build = read_build();
+        print_times(coming, &a);
+    } else if (strcmp(kind, "adjust") == 0) {
         a.day = day();
         a.convention = byte();
         a.calendar = calendar();

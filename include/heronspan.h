@@ -42,7 +42,8 @@ enum {
     HERONSPAN_ROOM = 14,            /* a lent list is too short */
     HERONSPAN_COLLAPSED = 15,       /* the end merge leaves two dates, the second not after the first */
     HERONSPAN_CODE = 16,            /* no IMM code, or no IMM date */
-    HERONSPAN_REQUEST = 17          /* a number outside its list */
+    HERONSPAN_REQUEST = 17,         /* a number outside its list */
+    HERONSPAN_NOTPLAIN = 19         /* the coming date alone: a request that it does not answer */
 };
 /* ---- made so far */
 
@@ -209,6 +210,24 @@ int64_t heronspan_build(uint32_t effective, uint32_t termination, int32_t tenor,
 int64_t heronspan_build_bytes(const uint8_t *bytes, size_t bytes_len, uint32_t *dates, size_t dates_len, uint8_t *flags,
                               size_t flags_len, uint32_t *answer, size_t answer_len);
 
+/* What heronspan_coming answers: 0 where there is no later date, else the day times 4 and one of these marks of the period that
+ * ends there; HERONSPAN_DAY and HERONSPAN_MARK take the two apart. */
+enum {
+    HERONSPAN_IRREGULAR = 0,
+    HERONSPAN_REGULAR = 1,
+    HERONSPAN_NO_PERIOD = 2 /* the effective date, which ends no period */
+};
+#define HERONSPAN_DAY(answer) ((uint32_t)((answer) / 4))
+#define HERONSPAN_MARK(answer) ((int)((answer) % 4))
+
+/* The first date after the day `asked` of the schedule that heronspan_build gives with no limit of room, without making it: its
+ * cost does not grow with the schedule. It answers requests that are Backward or Forward, with a tenor above 0, no anchors, both
+ * conventions Unadjusted, end of month off and effective before termination, told by their fields alone; others are
+ * HERONSPAN_NOTPLAIN, after BOOK (of `asked` too), CALENDAR, NEGATIVE and TENOR. */
+int64_t heronspan_coming(uint32_t effective, uint32_t termination, int32_t tenor, uint8_t unit, uint8_t rule,
+                         uint8_t convention, uint8_t terminal, uint8_t monthend, uint32_t first, uint32_t penultimate,
+                         uint8_t mask, const uint32_t *closed, size_t closed_len, uint32_t asked);
+
 /* ---- names */
 
 /* The most bytes that the name of a refusal has. */
@@ -261,6 +280,8 @@ static inline const char *heronspan_refusal_name(int64_t answer) {
         return "CODE";
     case -HERONSPAN_REQUEST:
         return "REQUEST";
+    case -HERONSPAN_NOTPLAIN:
+        return "NOTPLAIN";
     /* made so far */
     default:
         return "";

@@ -38,10 +38,10 @@ RULES = "Zero Backward Forward Twentieth TwentiethIMM ThirdWednesday ThirdWednes
 TODAY = 739252  # 2025-01-01, which smallest inputs are drawn to
 
 # Positions of dates among a question's words.
-DATES = {"build": (1, 2, 9, 10), "trace": (1, 2, 9, 10), "date": (2,), "nextdatecode": (3,), "nextcodecode": (3,),
+DATES = {"build": (1, 2, 9, 10), "trace": (1, 2, 9, 10), "coming": (1, 2, 3), "date": (2,), "nextdatecode": (3,), "nextcodecode": (3,),
          "difference": (1, 2), "compare": (1, 2), "nth": (), "make": (), "times": (), "immcode": (), "check": ()}
 # Where the calendar starts.
-CALENDAR = {"build": 11, "trace": 11, "lent": 14, "check": 1, "open": 2, "adjust": 3, "monthend": 2, "ismonthend": 2, "advance": 6}
+CALENDAR = {"build": 11, "trace": 11, "coming": 12, "lent": 14, "check": 1, "open": 2, "adjust": 3, "monthend": 2, "ismonthend": 2, "advance": 6}
 
 
 def answers(program, lines, timeout=None):
@@ -60,9 +60,16 @@ def rust(lines, timeout=None):
 
 
 def of_rust(line):
-    """Whether the Rust can be asked: it has no lent lists, no request bytes, no calendar check, no byte outside a list."""
-    words = line.split(None, 9)
+    """Whether the Rust can be asked: it has no lent lists, no request bytes, no calendar check, no byte outside a list. Of a coming
+    date it is asked the build, where the question is answered."""
+    words = line.split(None, 10)
+    if words[0] == "coming":
+        return not reference.answer(line).startswith("refused")
     return words[0] not in ("lent", "bytes", "check") and not reference.outside(words)
+
+
+def rust_line(line):
+    return "build " + line.split(None, 2)[2] if line.startswith("coming ") else line
 
 
 def traces(lines):
@@ -179,6 +186,21 @@ def hold_build(line, said, traced, own, own_traced, previous):
     if any(s == 0 for s in steps):
         names.append(f"(shared) a list that repeats a date: {RULES[build.rule]}")
     return "ok", names
+
+
+def judge_coming(line, said, own):
+    """What the Rust's own list shows."""
+    words, expected = line.split(), reference.answer(line)
+    agree(expected, own)
+    if said is None:
+        return "ours = the law, " + expected, []
+    given = said.split()
+    count = int(given[4]) if given[0] == "ok" else 0
+    numbers = list(map(int, given[5:]))
+    shown = reference.first_after(numbers[:count], numbers[count:], int(words[1]))
+    if not count or shown != expected:
+        raise Differs(f"the Rust's list: {shown}\n    the law: {expected}")
+    return "what the Rust's list shows", []
 
 
 def judge_small(line, said, own, exception):
@@ -302,7 +324,7 @@ class Run:
         """The lines, and what the Rust and ours will have answered to them and to the traces of their builds."""
         asked = [line for line in lines if of_rust(line)]
         of_us = lines + traces(lines) if self.ours else []
-        return (lines, pool.submit(rust, asked + traces(asked), timeout),
+        return (lines, pool.submit(rust, [rust_line(line) for line in asked] + traces(asked), timeout),
                 pool.submit(answers, self.ours, of_us, timeout))
 
     def judging(self, lines, said, own):
@@ -316,6 +338,8 @@ class Run:
             try:
                 if theirs is not None and line.startswith("build "):
                     yield line, *judge_build(line, theirs, next(traced), mine, next(own_traced), self.exception)
+                elif line.startswith("coming "):
+                    yield line, *judge_coming(line, theirs, mine)
                 else:
                     if line.startswith("build "):
                         agree(reference.answer(line), next(own_traced))

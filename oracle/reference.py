@@ -19,6 +19,7 @@ UNEVEN, BOOK, CALENDAR, NEGATIVE, TENOR = 1, 2, 3, 4, 5
 FIRST_RANGE, FIRST_IMM, FIRST_RULE = 6, 7, 8
 LAST_RANGE, LAST_IMM, LAST_RULE = 9, 10, 11
 MONTHEND, CLOSED, ROOM, COLLAPSED, CODE, REQUEST = 12, 13, 14, 15, 16, 17
+NOTPLAIN = 19
 
 ZERO, BACKWARD, FORWARD, TWENTIETH, TWENTIETH_IMM, WEDNESDAY, WEDNESDAY_ALL, OLD_CDS, CDS, CDS2015 = range(10)
 UNADJUSTED, FOLLOWING, MODIFIED_FOLLOWING, PRECEDING, MODIFIED_PRECEDING = range(5)
@@ -422,6 +423,7 @@ class Build:
 UNIT = 0
 BUILD = ((3, UNIT), (5, 10), (6, 5), (7, 5), (8, 2))
 BYTES = {"build": BUILD, "trace": BUILD, "lent": tuple((at + 3, size) for at, size in BUILD),
+         "coming": tuple((at + 1, size) for at, size in BUILD),
          "adjust": ((2, 5),), "advance": ((2, UNIT), (4, 5), (5, 2)), "next20": ((2, 10),), "prev20": ((2, 10),),
          "dateadvance": ((2, UNIT),), "times": ((1, UNIT),),
          **{kind: ((2, 2),) for kind in "immdate immcode nextdate nextdatecode nextcode nextcodecode".split()}}
@@ -489,6 +491,30 @@ def ask_lent(w):
     need(not outside(w.words), REQUEST)
     need(dates == flags, UNEVEN)
     return ask_build(w, min(dates, PLACES))
+
+
+def first_after(dates, flags, asked):
+    """The first date after the asked day, and the flag of the period that it ends; - where it ends none."""
+    later = next((i for i, day in enumerate(dates) if day > asked), None)
+    if later is None:
+        return "none"
+    return f"{dates[later]} {int(flags[later - 1]) if later else '-'}"
+
+
+def ask_coming(w):
+    """Of the list with no limit of room; refusals 6 to 12 of its build are 19 here."""
+    asked, b = w.number(), read_build(w)
+    need(in_book(asked), BOOK)
+    rule = b.rule
+    try:
+        b.check()
+    except Refused as refused:
+        if refused.number <= TENOR:
+            raise
+    need(rule in (BACKWARD, FORWARD) and b.length > 0 and b.first == b.penultimate == 0, NOTPLAIN)
+    need(b.convention == b.terminal == UNADJUSTED and not b.month_end and b.effective < b.termination, NOTPLAIN)
+    b.run(10**9)
+    return first_after(b.dates, b.flags, asked)
 
 
 # The length of a field's body by its tag, or what holds of it.
@@ -603,6 +629,7 @@ def ask_times(w):
 
 ASK = {
     "bytes": ask_bytes,
+    "coming": ask_coming,
     "check": ask_check,
     "open": ask_open,
     "adjust": ask_adjust,

@@ -409,6 +409,19 @@ class Questions:
         record = 6 if r.random() < .9 else r.randrange(10)
         return f"lent {dates} {flags} {record}{build[5:]}"
 
+    def coming(self):
+        """A build that is mostly one that the question answers, and a day, mostly near or between its dates."""
+        r = self.r
+        words = self.build(longest=60).split()
+        if r.random() < .85:
+            words[5:11] = [r.choice("12"), *"00000"]
+            words[4] = str(abs(int(words[4])) or 1)
+            words[1:3] = sorted(words[1:3], key=int)
+        start, end = int(words[1]), int(words[2])
+        near = r.choice((start, end, start + int(r.random() * (end - start)), add(end, words[3], -r.randrange(9) * int(words[4]))))
+        asked = near + r.randrange(-2, 3) if r.random() < .98 else self.any_day()
+        return " ".join(["coming", str(asked), *words[1:]])
+
     def bytes(self):
         """A build as request bytes, often with something wrong in them."""
         r = self.r
@@ -443,7 +456,7 @@ class Questions:
 
 SMALL = ("next20 prev20 adjust monthend ismonthend advance immdate immcode code date nextdate nextdatecode nextcode "
          "nextcodecode dateadvance nth nextweekday dmonthend make fields difference compare times").split()
-MORE = ["open", "check", "lent", "bytes", "strange"]
+MORE = ["open", "check", "lent", "coming", "bytes", "strange"]
 KINDS = ["build", "trace", *SMALL]
 
 

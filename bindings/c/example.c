@@ -53,6 +53,13 @@ int main(void) {
                             HERONSPAN_RECORD);
     print_refusal("four places", count);
 
+    /* The coming date of an unadjusted schedule, without the schedule. */
+    int64_t coming = heronspan_coming(effective, termination, 3, HERONSPAN_MONTHS, HERONSPAN_BACKWARD, HERONSPAN_UNADJUSTED,
+                                      HERONSPAN_UNADJUSTED, 0, 0, 0, HERONSPAN_NEVER_CLOSED, NULL, 0, effective);
+    printf("coming: ");
+    print_day(HERONSPAN_DAY(coming));
+    printf("%s\n", HERONSPAN_MARK(coming) == HERONSPAN_REGULAR ? " R" : " S");
+
     /* 0 is no date: it is neither before nor after the real ones. */
     print_refusal("a missing date", heronspan_compare(0, effective));
     return same_names() ? 0 : 1;

@@ -41,4 +41,16 @@ int64_t __wrap_heronspan_next_imm_date(uint32_t day, uint8_t main)
 {
     return main == 1 && heronspan_is_imm_date(day, 1) == 1 ? (int64_t)day : __real_heronspan_next_imm_date(day, main);
 }
+#elif defined FAULT_COMING
+/* A period that ends on the last day of a month of 30 days is regular. */
+int64_t __real_heronspan_coming(uint32_t, uint32_t, int32_t, uint8_t, uint8_t, uint8_t, uint8_t, uint8_t, uint32_t,
+                                uint32_t, uint8_t, const uint32_t *, size_t, uint32_t);
+int64_t __wrap_heronspan_coming(uint32_t effective, uint32_t termination, int32_t tenor, uint8_t unit, uint8_t rule,
+                                uint8_t convention, uint8_t terminal, uint8_t monthend, uint32_t first,
+                                uint32_t penultimate, uint8_t mask, const uint32_t *closed, size_t count, uint32_t asked)
+{
+    int64_t n = __real_heronspan_coming(effective, termination, tenor, unit, rule, convention, terminal, monthend, first,
+                                        penultimate, mask, closed, count, asked);
+    return n > 0 && n % 4 == HERONSPAN_IRREGULAR && heronspan_fields(HERONSPAN_DAY(n)) % 100 == 30 ? n + 1 : n;
+}
 #endif

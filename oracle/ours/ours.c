@@ -194,6 +194,22 @@ static void say_trace(const struct build *b)
     say("no room suffices twice");
 }
 
+/* The coming date and the flag of the period that it ends, - where it ends none. */
+static void say_coming(uint32_t asked, const struct build *b)
+{
+    int64_t n = heronspan_coming(b->effective, b->termination, b->tenor, b->unit, b->rule, b->convention, b->terminal,
+                                 b->monthend, b->first, b->penultimate, b->calendar.mask, b->calendar.closed,
+                                 b->calendar.count, asked);
+    if (n < 0)
+        say_number(n);
+    else if (n == 0)
+        say("none");
+    else if (HERONSPAN_MARK(n) == HERONSPAN_NO_PERIOD)
+        say("%u -", HERONSPAN_DAY(n));
+    else
+        say("%u %d", HERONSPAN_DAY(n), HERONSPAN_MARK(n));
+}
+
 static int is(const char *kind, const char *name)
 {
     return strcmp(kind, name) == 0;
@@ -207,6 +223,10 @@ static int ask_schedule(const char *kind)
     } else if (is(kind, "trace")) {
         struct build b = read_build();
         say_trace(&b);
+    } else if (is(kind, "coming")) {
+        uint32_t asked = day();
+        struct build b = read_build();
+        say_coming(asked, &b);
     } else if (is(kind, "lent") || is(kind, "bytes")) {
         size_t dates_places = (size_t)number(), flags_places = (size_t)number(), record = (size_t)number();
         if (dates_places > PLACES || flags_places > PLACES || record > RECORD + EXTRA)

@@ -18,8 +18,8 @@ from pathlib import Path
 from typing import Iterable, Optional, Sequence
 
 __all__ = [
-    "Calendar", "Convention", "Order", "Refusal", "Refused", "Rule", "Schedule", "Unit", "WEEKENDS", "advance", "build",
-    "build_bytes", "compare", "difference", "imm_code", "imm_date", "is_imm_code", "is_imm_date", "make", "month_end", "next_imm_code",
+    "Calendar", "Coming", "Convention", "Order", "Refusal", "Refused", "Rule", "Schedule", "Unit", "WEEKENDS", "advance", "build",
+    "build_bytes", "coming", "compare", "difference", "imm_code", "imm_date", "is_imm_code", "is_imm_date", "make", "month_end", "next_imm_code",
     "next_imm_date", "next_twentieth", "next_weekday", "nth_weekday", "previous_twentieth", "refusal_name", "times",
     "weekday",
 ]
@@ -44,6 +44,7 @@ class Refusal(IntEnum):
     COLLAPSED = 15  # the end merge leaves two dates, the second not after the first
     CODE = 16  # no IMM code, or no IMM date
     REQUEST = 17  # a number outside its list
+    NOTPLAIN = 19  # the coming date alone: a request that it does not answer
     # made so far
 
 
@@ -101,6 +102,7 @@ _bytes = [ctypes.c_char_p, _size]
 _days = [ctypes.POINTER(_u32), _size]
 _counts = [ctypes.POINTER(_i32), _size]
 _flags = [ctypes.POINTER(_u8), _size]
+_request = [_u32, _u32, _i32, _u8, _u8, _u8, _u8, _u8, _u32, _u32, _u8, *_days]
 
 _PARAMETERS = {
     "make": [_u32, _u32, _u32],
@@ -128,7 +130,8 @@ _PARAMETERS = {
     "next_imm_code_with_code": [*_bytes, _u8, _u32],
     "next_twentieth": [_u32, _u8],
     "previous_twentieth": [_u32, _u8],
-    "build": [_u32, _u32, _i32, _u8, _u8, _u8, _u8, _u8, _u32, _u32, _u8, *_days, *_days, *_flags, *_days],
+    "build": [*_request, *_days, *_flags, *_days],
+    "coming": [*_request, _u32],
     "build_bytes": [*_bytes, *_days, *_flags, *_days],
     "refusal_text": [_i64, *_flags],
 }
@@ -371,15 +374,51 @@ def build(
     room: int = MOST,
 ) -> Schedule:
     """Builds a schedule; `terminal` is the convention of the last date."""
-    calendar = calendar or Calendar()
-    asked = (_signed(tenor), _byte(unit), _byte(rule), _byte(convention), _byte(terminal), int(monthend))
-    anchors = (_number(first), _number(penultimate))
-    return _built("build", room, _number(effective), _number(termination), *asked, *anchors, *calendar._lent)
+    asked = _asked(effective, termination, tenor, unit, rule, convention, terminal, monthend, first, penultimate, calendar)
+    return _built("build", room, *asked)
+
+
+@dataclass(frozen=True)
+class Coming:
+    """A date of a schedule, and whether the period that ends there is regular; None for the effective date, which ends none."""
+
+    date: date
+    regular: Optional[bool]
+
+
+def coming(
+    asked: Optional[date],
+    effective: Optional[date],
+    termination: Optional[date],
+    tenor: int = 0,
+    unit: Unit = Unit.DAYS,
+    rule: Rule = Rule.BACKWARD,
+    convention: Convention = Convention.UNADJUSTED,
+    terminal: Convention = Convention.UNADJUSTED,
+    monthend: bool = False,
+    first: Optional[date] = None,
+    penultimate: Optional[date] = None,
+    calendar: Optional[Calendar] = None,
+) -> Optional[Coming]:
+    """The first date of the schedule after the asked day, without the schedule; None where there is no later date.
+
+    It answers requests that are Backward or Forward, unadjusted, without anchors and end of month; others are refused with NOTPLAIN.
+    """
+    request = _asked(effective, termination, tenor, unit, rule, convention, terminal, monthend, first, penultimate, calendar)
+    answer = _ask("coming", *request, _number(asked))
+    return Coming(_date(answer // 4), (False, True, None)[answer % 4]) if answer else None
 
 
 def build_bytes(request: bytes, room: int = MOST) -> Schedule:
     """Builds the schedule that the bytes of a request ask for."""
     return _built("build_bytes", room, request, len(request))
+
+
+def _asked(effective, termination, tenor, unit, rule, convention, terminal, monthend, first, penultimate, calendar) -> tuple:
+    """A request in numbers, as the library takes it."""
+    choices = (_signed(tenor), _byte(unit), _byte(rule), _byte(convention), _byte(terminal), int(monthend))
+    anchors = (_number(first), _number(penultimate))
+    return (_number(effective), _number(termination), *choices, *anchors, *(calendar or Calendar())._lent)
 
 
 def _built(name: str, room: int, *asked: object) -> Schedule:

@@ -174,6 +174,33 @@ class Schedules(Refusals):
         self.refused("REQUEST", h.build_bytes, b"")
         self.refused("ROOM", h.build_bytes, request, room=5)
 
+    def test_the_coming_date(self) -> None:
+        trade = (date(2025, 1, 15), date(2025, 12, 20), 3, Unit.MONTHS)
+        self.assertEqual(h.coming(date(2025, 1, 14), *trade), h.Coming(date(2025, 1, 15), None))
+        self.assertEqual(h.coming(date(2025, 1, 15), *trade), h.Coming(date(2025, 3, 20), False))
+        self.assertEqual(h.coming(date(2025, 3, 20), *trade), h.Coming(date(2025, 6, 20), True))
+        self.assertIsNone(h.coming(date(2025, 12, 20), *trade))
+        self.assertEqual(h.coming(date(2025, 10, 15), *trade, Rule.FORWARD), h.Coming(date(2025, 12, 20), False))
+        daily = (date(1901, 1, 1), date(2199, 12, 31), 1, Unit.DAYS)
+        self.assertEqual(h.coming(date(1950, 1, 1), *daily), h.Coming(date(1950, 1, 2), True))
+        self.refused("ROOM", h.build, *daily)
+        self.refused("BOOK", h.coming, None, *trade)
+        self.refused("NOTPLAIN", h.coming, date(2025, 2, 1), *trade, convention=Convention.FOLLOWING)
+        self.refused("NOTPLAIN", h.coming, date(2025, 2, 1), *trade, first=date(2025, 3, 20))
+        self.refused("TENOR", h.coming, date(2025, 2, 1), *trade[:2], 367, Unit.DAYS, Rule.ZERO)
+        self.refused("REQUEST", h.coming, date(2025, 2, 1), *trade, rule=10)
+
+    def test_the_coming_date_is_what_the_list_shows(self) -> None:
+        for rule in (Rule.BACKWARD, Rule.FORWARD):
+            for tenor, unit in ((1, Unit.MONTHS), (5, Unit.MONTHS), (9, Unit.DAYS), (2, Unit.WEEKS), (1, Unit.YEARS)):
+                trade = (date(2024, 1, 31), date(2026, 2, 28), tenor, unit, rule)
+                built = h.build(*trade)
+                for back in range(-3, 760):
+                    asked = date.fromordinal(date(2024, 1, 31).toordinal() + back)
+                    later = [i for i, day in enumerate(built.dates) if day > asked]
+                    shown = h.Coming(built.dates[later[0]], built.regular[later[0] - 1] if later[0] else None) if later else None
+                    self.assertEqual(h.coming(asked, *trade), shown, (asked, trade))
+
     def test_refusals(self) -> None:
         asked = (date(2025, 6, 25), date(2025, 3, 1), 3, Unit.MONTHS)
         self.refused("COLLAPSED", h.build, *asked, rule=Rule.TWENTIETH)

@@ -56,6 +56,22 @@ extern "C" {
         answer: *mut u32,
         answer_len: usize,
     ) -> i64;
+    pub fn heronspan_coming(
+        effective: u32,
+        termination: u32,
+        tenor: i32,
+        unit: u8,
+        rule: u8,
+        convention: u8,
+        terminal: u8,
+        monthend: u8,
+        first: u32,
+        penultimate: u32,
+        mask: u8,
+        closed: *const u32,
+        closed_len: usize,
+        asked: u32,
+    ) -> i64;
     pub fn heronspan_build_bytes(
         bytes: *const u8,
         bytes_len: usize,

@@ -47,11 +47,13 @@ pub enum Refusal {
     Code = 16,
     /// A number outside its list.
     Request = 17,
+    /// The coming date alone: a request that it does not answer.
+    Notplain = 19,
     // made so far
 }
 
 // made by tools/refusals.py: names
-const REFUSALS: [(Refusal, &str); 17] = [
+const REFUSALS: [(Refusal, &str); 18] = [
     (Refusal::Uneven, "UNEVEN"),
     (Refusal::Book, "BOOK"),
     (Refusal::Calendar, "CALENDAR"),
@@ -69,6 +71,7 @@ const REFUSALS: [(Refusal, &str); 17] = [
     (Refusal::Collapsed, "COLLAPSED"),
     (Refusal::Code, "CODE"),
     (Refusal::Request, "REQUEST"),
+    (Refusal::Notplain, "NOTPLAIN"),
 ];
 // made so far
 
@@ -359,6 +362,17 @@ pub struct Schedule {
     pub unit: Unit,
 }
 
+/// The first date of a schedule after an asked day.
+#[derive(Clone, Copy, Debug, PartialEq, Eq)]
+pub enum Coming {
+    /// The effective date, which ends no period.
+    Effective(Date),
+    /// A date, and whether the period that ends there is regular.
+    Ending { date: Date, regular: bool },
+    /// No later date.
+    Nothing,
+}
+
 /// What a schedule is asked for: Backward, unadjusted and always open unless said.
 #[derive(Clone, Debug)]
 pub struct Request {
@@ -437,6 +451,36 @@ impl Request {
     pub fn room(mut self, room: usize) -> Request {
         self.room = room;
         self
+    }
+
+    /// The first date of the schedule after the asked day, without the schedule. Answers requests that are Backward or Forward,
+    /// unadjusted, without anchors and end of month; others are [`Refusal::Notplain`].
+    pub fn coming(&self, asked: Date) -> Answer<Coming> {
+        let (closed, closed_len) = self.calendar.lent();
+        let answer = told(unsafe {
+            ffi::heronspan_coming(
+                self.effective.0,
+                self.termination.0,
+                self.tenor,
+                self.unit as u8,
+                self.rule as u8,
+                self.convention as u8,
+                self.terminal as u8,
+                self.monthend as u8,
+                self.first.0,
+                self.penultimate.0,
+                self.calendar.mask,
+                closed,
+                closed_len,
+                asked.0,
+            )
+        })?;
+        let date = Date((answer / 4) as u32);
+        Ok(match (answer, answer % 4) {
+            (0, _) => Coming::Nothing,
+            (_, 2) => Coming::Effective(date),
+            (_, mark) => Coming::Ending { date, regular: mark == 1 },
+        })
     }
 
     pub fn build(&self) -> Answer<Schedule> {

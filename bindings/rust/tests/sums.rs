@@ -1,5 +1,5 @@
 //! Sums by hand of document 01, and what is refused.
-use heronspan::{imm, times, Calendar, Convention, Date, Refusal, Request, Rule, Schedule, Unit};
+use heronspan::{imm, times, Calendar, Coming, Convention, Date, Refusal, Request, Rule, Schedule, Unit};
 use std::cmp::Ordering;
 
 fn day(year: u32, month: u32, day: u32) -> Date {
@@ -90,6 +90,19 @@ fn the_last_date_has_its_own_convention() {
     assert_eq!(built.dates[3..], [day(2025, 9, 22), day(2025, 12, 20)]);
     let built = quarterly().calendar(weekends).terminal(Convention::Following).build().unwrap();
     assert_eq!(built.dates[3..], [day(2025, 9, 20), day(2025, 12, 22)]);
+}
+
+#[test]
+fn the_coming_date() {
+    let ending = |month, day_of_month, regular| Ok(Coming::Ending { date: day(2025, month, day_of_month), regular });
+    assert_eq!(quarterly().coming(day(2025, 1, 14)), Ok(Coming::Effective(day(2025, 1, 15))));
+    assert_eq!(quarterly().coming(day(2025, 1, 15)), ending(3, 20, false));
+    assert_eq!(quarterly().coming(day(2025, 3, 20)), ending(6, 20, true));
+    assert_eq!(quarterly().coming(day(2025, 12, 20)), Ok(Coming::Nothing));
+    assert_eq!(quarterly().rule(Rule::Forward).coming(day(2025, 10, 15)), ending(12, 20, false));
+    assert_eq!(quarterly().coming(Date::NONE), Err(Refusal::Book));
+    assert_eq!(quarterly().first(day(2025, 3, 20)).coming(day(2025, 2, 1)), Err(Refusal::NotPlain));
+    assert_eq!(Refusal::NotPlain.to_string(), "refused 19 NOTPLAIN");
 }
 
 #[test]

@@ -1,9 +1,16 @@
 // Schedules, from a request in numbers.
+ghost use mathlib.Core.Path.{_≡_};
+ghost use Rattle.refusal.specs.Answer.{then};
+ghost use Rattle.coming.specs.Coming.{comingOf};
+ghost use Rattle.crossing.specs.Answers.{oneNumber, marked};
 ghost use Rattle.request.specs.Format.{decoded};
 ghost use Rattle.recorded.specs.Bytes.{requestIn, closedIn};
 ghost use Rattle.crossing.specs.Requests.{requestOf};
 ghost use Rattle.recorded.specs.Builds.{Reported};
+use crossing::answers;
 use crossing::requests;
+use crossing::requests::Asked;
+use date::Date;
 
 // Builds a schedule: the dates into the start of `dates`, the flags of the periods between them (1 regular) into the start
 // of `flags`, and the count of dates is answered. The start of `answer` then holds the refusal's number or 0, the count of
@@ -55,4 +62,43 @@ pub extern "C" fn heronspan_build_bytes(
     ensures { λ r. ⌜ Reported (requestIn (decoded (now (bytes .entry)) 4096)) (closedIn (decoded (now (bytes .entry)) 4096)) r (now (dates .entry)) (now (flags .entry)) (now (answer .entry)) (now (dates .exit)) (now (flags .exit)) (now (answer .exit)) ⌝ }
 {
     recorded::build_bytes(bytes, dates, flags, answer)
+}
+
+// The first date after the asked day of the schedule of a request in numbers, without the schedule: 0 where there is no later
+// date, else the day times 4, and 0 where the period that it ends is irregular, 1 where it is regular, 2 where it ends none.
+#[no_mangle]
+pub extern "C" fn heronspan_coming(
+    effective: u32,
+    termination: u32,
+    tenor: i32,
+    unit: u8,
+    rule: u8,
+    convention: u8,
+    terminal: u8,
+    monthend: u8,
+    first: u32,
+    penultimate: u32,
+    mask: u8,
+    closed: &[u32],
+    asked: u32,
+) -> i64
+    ensures { λ r. ⌜ r ≡ oneNumber marked (then (requestOf effective termination tenor unit rule convention terminal monthend first penultimate mask) (λ q. comingOf q (now (closed .entry)) asked)) ⌝ }
+{
+    let request = requests::request_of(
+        effective,
+        termination,
+        tenor,
+        unit,
+        rule,
+        convention,
+        terminal,
+        monthend,
+        first,
+        penultimate,
+        mask,
+    );
+    match request {
+        Asked::Is(q) => answers::of_coming(coming::after(q, closed, Date { day: asked })),
+        Asked::Refused(n) => answers::minus(n),
+    }
 }

@@ -12,6 +12,7 @@ use Rattle.period.specs.declared.Period.{Period}
 use Rattle.date.specs.declared.Fields.{Fields}
 use Rattle.date.specs.Date.{Order, before, same, after}
 use Rattle.imm.specs.declared.codes.Code.{Code}
+use Rattle.coming.specs.Coming.{Comes, begins, comes, none-comes}
 
 unfoldable pub oneNumber : {A : Type 0} → (A → ℕ) → Answer A → ℤ
 oneNumber f (given a) = pos (f a)
@@ -37,6 +38,12 @@ yes false = 0
 -- the two bytes of a code
 unfoldable pub twoBytes : Code → ℕ
 twoBytes c = c .letter * 256 + c .digit
+
+-- a coming date: 0 is no later date; else the day times 4, and 0 for an irregular period that ends there, 1 for a regular one, 2 for none
+unfoldable pub marked : Comes → ℕ
+marked (begins d) = d * 4 + 2
+marked (comes d flag) = d * 4 + flag
+marked none-comes = 0
 
 -- where nothing but the refusals is of interest, or the value stands in a lent list
 abbrev pub done : {A : Type 0} → A → ℕ

@@ -24,6 +24,10 @@ use Rattle.crossing.specs.declared.NamedConvention.{NamedConvention}
 use Rattle.crossing.specs.declared.NamedConvention.the-variants as convention-is
 use Rattle.crossing.specs.declared.NamedFlag.{NamedFlag}
 use Rattle.crossing.specs.declared.NamedFlag.the-variants as flag-is
+use Rattle.steps.specs.declared.Request.{Request}
+use Rattle.crossing.specs.declared.requests.Asked.{Asked}
+use Rattle.crossing.specs.declared.requests.Asked.the-variants as asked-is
+use Rattle.crossing.specs.Requests.{asked}
 use Rattle.crossing.specs.Answers.{oneNumber}
 use Rattle.crossing.specs.Names.{nameOf, Spelled}
 use Rattle.crossing.specs.Numbers.{namedUnit, namedRule, namedConvention, namedFlag}
@@ -106,6 +110,15 @@ module _ {m : NamedFlag} {x : Answer Bool} (p : namedFlag m ≡ x) where
   pub flag-unnamed : (n : ℕ) → m ≡ flag-is.Refused n → x ≡ refused n
   unfolding namedFlag
   flag-unnamed n e = sym p ∙ ap namedFlag e
+
+module _ {m : Asked} {x : Answer Request} (p : asked m ≡ x) where
+  pub request-named : (q : Request) → m ≡ asked-is.Is q → x ≡ given q
+  unfolding asked
+  request-named q e = sym p ∙ ap asked e
+
+  pub request-unnamed : (n : ℕ) → m ≡ asked-is.Refused n → x ≡ refused n
+  unfolding asked
+  request-unnamed n e = sym p ∙ ap asked e
 
 -- ---- what was written of an answer's name
 pub same-name : (z : ℤ) → SFits w64 z → nameOf (toZ w64 (ofZ w64 z)) ≡ nameOf z

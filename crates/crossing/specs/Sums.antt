@@ -15,9 +15,10 @@ use Rattle.calendar.specs.Adjust.{conventions, conventionNumber}
 use Rattle.steps.specs.declared.Rule.{Rule}
 use Rattle.steps.specs.declared.Rule.the-variants.{Zero, Backward, Forward, Twentieth, TwentiethIMM, ThirdWednesday, ThirdWednesdayInclusive, OldCDS, CDS, CDS2015}
 use Rattle.steps.specs.Rules.{rules, ruleNumber}
-use Rattle.crossing.specs.Answers.{oneNumber, place}
+use Rattle.crossing.specs.Answers.{oneNumber, place, marked}
 use Rattle.crossing.specs.Names.{nameOf}
 use Rattle.crossing.specs.Numbers.{atPlace, unitOf, ruleOf, conventionOf, flagOf, unitNumber}
+use Rattle.coming.specs.Coming.{begins, comes, none-comes}
 
 -- an answer below zero is a refusal, and its number is the refusal's
 pub below-zero : {A : Type 0} (f : A → ℕ) (a : Answer A) (n : ℕ) → oneNumber f a ≡ negsuc n → a ≡ refused (suc n)
@@ -68,7 +69,7 @@ pub no-flag-two : flagOf 2 ≡ refused 17
 unfolding flagOf atPlace
 no-flag-two = refl
 
--- refusal 2 is BOOK; there is no refusal 18, and a value has no name
+-- refusal 2 is BOOK and 19 NOTPLAIN; there is no refusal 18, and a value has no name
 pub book-named : nameOf (negsuc 1) ≡ 66 ∷ 79 ∷ 79 ∷ 75 ∷ []
 unfolding nameOf nameOfNumber ofNumber pick refusals letters
 book-named = refl
@@ -76,6 +77,15 @@ book-named = refl
 pub no-eighteenth : nameOf (negsuc 17) ≡ []
 unfolding nameOf nameOfNumber ofNumber pick refusals
 no-eighteenth = refl
+
+pub not-plain-named : nameOf (negsuc 18) ≡ 78 ∷ 79 ∷ 84 ∷ 80 ∷ 76 ∷ 65 ∷ 73 ∷ 78 ∷ []
+unfolding nameOf nameOfNumber ofNumber pick refusals letters
+not-plain-named = refl
+
+-- L2's sum: 2025-03-20, irregular
+pub coming-marked : (marked (comes 739330 0) ≡ 2957320) × (marked (comes 739422 1) ≡ 2957689) × (marked (begins 739266) ≡ 2957066) × (marked none-comes ≡ 0)
+unfolding marked
+coming-marked = (refl, refl, refl, refl)
 
 pub value-unnamed : (n : ℕ) → nameOf (pos n) ≡ []
 unfolding nameOf

@@ -3,10 +3,14 @@ ghost use mathlib.Core.Path.{_≡_};
 ghost use lib.IntN.{pos, negℤ};
 ghost use Rattle.date.specs.Date.{dated, split, numbered, compared};
 ghost use Rattle.calendar.specs.Calendar.{checked, decided};
+ghost use Prim.Native.Nat.{_+_, _*_};
+ghost use Rattle.date.specs.Civil.{pickN};
 ghost use Rattle.imm.specs.Imm.{tested, coded};
-ghost use Rattle.crossing.specs.Answers.{oneNumber, itself, digits, place, yes, twoBytes, done};
+ghost use Rattle.coming.specs.Coming.{meant};
+ghost use Rattle.crossing.specs.Answers.{oneNumber, itself, digits, place, yes, twoBytes, marked, done};
 use calendar::Checked;
 use calendar::Decided;
+use coming::Coming;
 use date::Compared;
 use date::Dated;
 use date::Fields;
@@ -115,5 +119,29 @@ pub fn of_coded(d: Coded) -> i64
     match d {
         Coded::Code(c) => value(c.letter as u32 * 256 + c.digit as u32),
         Coded::Refused(n) => minus(n),
+    }
+}
+
+fn mark_of(regular: bool) -> u32
+    ensures { λ r. ⌜ r ≡ pickN regular 1 0 ⌝ }
+{
+    if regular { 1 } else { 0 }
+}
+
+fn with_mark(day: u32, mark: u32) -> i64
+    ensures { λ r. ⌜ r ≡ pos (day * 4 + mark) ⌝ }
+{
+    let n = day as u64 * 4 + mark as u64;
+    n as i64
+}
+
+pub fn of_coming(c: Coming) -> i64
+    ensures { λ r. ⌜ r ≡ oneNumber marked (meant c) ⌝ }
+{
+    match c {
+        Coming::Effective(d) => with_mark(d.day, 2),
+        Coming::Ending { date, regular } => with_mark(date.day, mark_of(regular)),
+        Coming::Nothing => value(0),
+        Coming::Refused(n) => minus(n),
     }
 }

@@ -1,88 +1,68 @@
--- A law for each way through `is_plain`.
+-- A law for each way through `is_straight` and `is_plain`.
 -- Assumes nothing.
-use mathlib.Core.Path.{_≡_, refl, sym, _∙_}
-use mathlib.Core.Bool.{Bool, true, false, false≢true, not}
-use lib.Dec.{ltb}
+use mathlib.Core.Path.{_≡_, refl, sym, ap, _∙_}
+use mathlib.Core.Bool.{Bool, true, false, false≢true, not, _&&_}
+use lib.Dec.{eqb}
 use borrow.Author.Needs.{needs}
-use borrow.Author.Tests.{ltb-true, lt-ltb, not-true, not-false}
-use Rattle.calendar.specs.declared.Convention.{Convention}
-use Rattle.calendar.specs.declared.Convention.the-variants.{Unadjusted, Following, ModifiedFollowing, Preceding, ModifiedPreceding}
+use borrow.Author.Tests.{eq-eqb, ne-eqb, not-true, not-false}
+use Prim.Native.Nat.{ℕ}
+use Rattle.steps.specs.declared.Rule.{Rule}
 use Rattle.steps.specs.declared.Rule.the-variants.{Backward}
 use Rattle.steps.specs.declared.Request.{Request}
 use Rattle.steps.specs.Rules.{ruleNumber, oneOf, isBackward}
 use Rattle.steps.specs.RuleLaws.{only}
-use Rattle.plain.specs.Demand.{Plain, PlainIf}
-use Rattle.plain.specs.Asked.{isUnadjusted, isPositive}
+use Rattle.plain.specs.Demand.{PlainIf}
+use Rattle.plain.specs.Asked.{isStraight}
+use Rattle.plain.specs.Straight.{straight-plain, plain-straight}
 
-unadjusted-only : (c : Convention) → isUnadjusted c ≡ true → c ≡ Unadjusted
-unfolding isUnadjusted
-unadjusted-only Unadjusted e = refl
-unadjusted-only Following e = absurd (false≢true e)
-unadjusted-only ModifiedFollowing e = absurd (false≢true e)
-unadjusted-only Preceding e = absurd (false≢true e)
-unadjusted-only ModifiedPreceding e = absurd (false≢true e)
+-- ---- tests one after the other: the first that fails is the answer
+module _ (a b r : Bool) where
+  stops : a ≡ false → false ≡ (a && b)
+  stops e = rw e
 
--- ---- the tests of `is_plain`
-never : {q : Request} → (Plain q → ⊥) → PlainIf false q
-never n = record { only = λ e. absurd (false≢true e); always = λ p. absurd (n p) }
+  goes-on : a ≡ true → r ≡ b → r ≡ (a && b)
+  goes-on e h = rw e h
+
+-- a test that a call made, one of a flag, one of an anchor
+pub call-stops : (t a b : Bool) → t ≡ a → not t ≡ true → false ≡ (a && b)
+call-stops t a b h e = stops a b a (sym h ∙ not-true t e)
+
+pub call-goes : (t a b r : Bool) → t ≡ a → not t ≡ false → r ≡ b → r ≡ (a && b)
+call-goes t a b r h e k = goes-on a b r (sym h ∙ not-false t e) k
+
+pub flag-stops : (t b : Bool) → t ≡ true → false ≡ (not t && b)
+flag-stops t b e = rw e
+
+pub flag-goes : (t b r : Bool) → t ≡ false → r ≡ b → r ≡ (not t && b)
+flag-goes t b r e k = rw e k
+
+pub anchor-stops : (n : ℕ) (b : Bool) → (n ≡ 0 → ⊥) → false ≡ (eqb n 0 && b)
+anchor-stops n b h = stops (eqb n 0) b b (ne-eqb n 0 h)
+
+pub anchor-goes : (n : ℕ) (b r : Bool) → n ≡ 0 → r ≡ b → r ≡ (eqb n 0 && b)
+anchor-goes n b r h k = goes-on (eqb n 0) b r (eq-eqb n 0 h) k
+
+pub ruleset straight-tests = (call-stops, call-goes, flag-stops, flag-goes, anchor-stops, anchor-goes, needs)
+
+-- ---- the rule
+backward-only : (r : Rule) → isBackward r ≡ true → r ≡ Backward
+unfolding isBackward
+backward-only r e = only r Backward e
 
 module _ (q : Request) where
-  backward-test : Plain q → isBackward (q .rule) ≡ true
-  unfolding isBackward oneOf ruleNumber
-  backward-test p = rw (p .backward)
-
-  convention-test : Plain q → isUnadjusted (q .convention) ≡ true
-  unfolding isUnadjusted
-  convention-test p = rw (p .unadjusted)
-
-  terminal-test : Plain q → isUnadjusted (q .terminal) ≡ true
-  unfolding isUnadjusted
-  terminal-test p = rw (p .unadjusted-last)
-
-  -- the answer is no where one of them fails
   pub not-backward : (b : Bool) → b ≡ isBackward (q .rule) → not b ≡ true → PlainIf false q
-  not-backward b h e = never (λ p. false≢true (sym (not-true b e) ∙ h ∙ backward-test p))
+  unfolding isBackward oneOf ruleNumber
+  not-backward b h e =
+      record {
+        only = λ z. absurd (false≢true z);
+        always = λ p. absurd (false≢true (sym (not-true b e) ∙ h ∙ ap isBackward (p .backward)));
+      }
 
-  pub not-positive : (b : Bool) → b ≡ isPositive (q .tenor .length) → not b ≡ true → PlainIf false q
-  not-positive b h e = never (λ p. false≢true (sym (not-true b e) ∙ h ∙ p .positive))
+  pub then-straight : (b r : Bool) → b ≡ isBackward (q .rule) → not b ≡ false → r ≡ isStraight q → PlainIf r q
+  then-straight b r h e k =
+      record {
+        only = λ z. straight-plain q (backward-only (q .rule) (sym h ∙ not-false b e)) (sym k ∙ z);
+        always = λ p. k ∙ plain-straight q p;
+      }
 
-  pub adjusts : (b : Bool) → b ≡ isUnadjusted (q .convention) → not b ≡ true → PlainIf false q
-  adjusts b h e = never (λ p. false≢true (sym (not-true b e) ∙ h ∙ convention-test p))
-
-  pub adjusts-last : (b : Bool) → b ≡ isUnadjusted (q .terminal) → not b ≡ true → PlainIf false q
-  adjusts-last b h e = never (λ p. false≢true (sym (not-true b e) ∙ h ∙ terminal-test p))
-
-  pub at-month-end : q .monthend ≡ true → PlainIf false q
-  at-month-end e = never (λ p. false≢true (sym (p .no-month-end) ∙ e))
-
-  pub has-first : (q .first .day ≡ 0 → ⊥) → PlainIf false q
-  has-first n = never (λ p. n (p .no-first))
-
-  pub has-penultimate : (q .penultimate .day ≡ 0 → ⊥) → PlainIf false q
-  has-penultimate n = never (λ p. n (p .no-penultimate))
-
-  -- and that of the order where all others hold
-  rule-told : (b : Bool) → b ≡ isBackward (q .rule) → not b ≡ false → q .rule ≡ Backward
-  unfolding isBackward
-  rule-told b h e = only (q .rule) Backward (sym h ∙ not-false b e)
-
-  pub by-order : (b l c t : Bool) → b ≡ isBackward (q .rule) → not b ≡ false → l ≡ isPositive (q .tenor .length) → not l ≡ false
-      → c ≡ isUnadjusted (q .convention) → not c ≡ false → t ≡ isUnadjusted (q .terminal) → not t ≡ false
-      → q .monthend ≡ false → q .first .day ≡ 0 → q .penultimate .day ≡ 0 → (r : Bool) → r ≡ ltb (q .effective .day) (q .termination .day) → PlainIf r q
-  by-order b l c t rule b-holds length l-holds convention c-holds terminal t-holds no-month-end no-first no-penultimate r order = record {
-    only = λ e. record {
-      backward = rule-told b rule b-holds;
-      positive = sym length ∙ not-false l l-holds;
-      no-first = no-first;
-      no-penultimate = no-penultimate;
-      unadjusted = unadjusted-only (q .convention) (sym convention ∙ not-false c c-holds);
-      unadjusted-last = unadjusted-only (q .terminal) (sym terminal ∙ not-false t t-holds);
-      no-month-end = no-month-end;
-      order = ltb-true (q .effective .day) (q .termination .day) (sym order ∙ e);
-    };
-    always = λ p. order ∙ lt-ltb (q .effective .day) (q .termination .day) (p .order);
-  }
-
-pub ruleset plain-tests = (not-backward, not-positive, adjusts, adjusts-last, at-month-end, has-first, has-penultimate, needs)
-
-pub ruleset order-test = (by-order, needs)
+pub ruleset plain-tests = (not-backward, then-straight, needs)

@@ -17,7 +17,7 @@ use Rattle.steps.specs.Table.{Row, row, numberOr, firstRow, isGiven, anchorOk, 
 use Rattle.steps.specs.TableLaws as table
 use Rattle.plain.specs.Demand.{Plain, Passes, ChecksAre}
 
-not-negative : (z : ℤ) → ltZ (pos 0) z ≡ true → isNegative z ≡ false
+pub not-negative : (z : ℤ) → ltZ (pos 0) z ≡ true → isNegative z ≡ false
 not-negative (pos n) h = refl
 not-negative (negsuc n) h = absurd (false≢true h)
 

@@ -62,15 +62,15 @@ between-same f a b ds h s =
     (ap given (parts a b ds h))
 
 module _ (f : ℕ → Answer ℕ) (ds : List ℕ) (s : (d : ℕ) → d ∈ ds → f d ≡ given d) where
-  first-same : onFirst f ds ≡ given ds
+  pub first-same : onFirst f ds ≡ given ds
   unfolding onFirst
   first-same = between-same f 0 1 ds (omega arith) s
 
-  last-same : onLast f ds ≡ given ds
+  pub last-same : onLast f ds ≡ given ds
   unfolding onLast
   last-same = between-same f (length ds - 1) (length ds) ds (omega arith) s
 
-  middle-same : onMiddle f ds ≡ given ds
+  pub middle-same : onMiddle f ds ≡ given ds
   unfolding onMiddle
   middle-same = between-same f 1 (1 + (length ds - 2)) ds (omega arith) s
 
@@ -99,7 +99,7 @@ apart-front ds a =
     (λ (h : length ds < 2). short _ (leb (getD ds 1 0) (getD ds 0 0)) (lt-leb 2 (length ds) h))
     (le-or-lt 2 (length ds))
 
-merged-same : (ds fs : List ℕ) → Ascending ds → mergeFront (mergeEnd ds fs) ≡ given (record { dates = ds; flags = fs })
+pub merged-same : (ds fs : List ℕ) → Ascending ds → mergeFront (mergeEnd ds fs) ≡ given (record { dates = ds; flags = fs })
 unfolding mergeFront mergeEnd mergeEndIf mergeFrontIf
 merged-same ds fs a = rw (apart-end ds a, apart-front ds a)
 

@@ -34,7 +34,7 @@ module _ (q : Request) (closed : List ℕ) (dates flags : ℕ) (p : Plain q) (c 
   unfolding buildOf admitted
   build-is = rw (checks-are q closed dates flags p .1 c)
 
-  owed-span : (d : ℕ) → OwedDate q d → InSpan d
+  pub owed-span : (d : ℕ) → OwedDate q d → InSpan d
   owed-span d (inl e) = rw e (record { low = omega (arith, book-from (q .effective .day) (c .effective-in-book)); high = omega (arith, book-le (q .effective .day) (c .effective-in-book)) })
   owed-span d (inr o) = span-of (q .termination .day) (o .1 .0 * tenorLength q) (q .tenor .unit) d (o .1 .1)
 

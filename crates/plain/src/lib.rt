@@ -1,7 +1,7 @@
 // The plain builds: those of which demand 3 says the whole list in one sentence (specs/Demand.antt).
 ghost use mathlib.Core.Path.{_≡_};
 ghost use Rattle.plain.specs.Demand.{PlainIf};
-ghost use Rattle.plain.specs.Asked.{isUnadjusted, isPositive};
+ghost use Rattle.plain.specs.Asked.{isUnadjusted, isPositive, isUnanchored, isStraight};
 use calendar::Convention;
 use period::Period;
 use steps::Request;
@@ -25,17 +25,26 @@ fn is_positive(tenor: Period) -> bool
     0 < tenor.length
 }
 
-// Whether a request is plain: Backward, positive tenor, no anchors, both conventions Unadjusted, end of month off, effective before
-// termination. The input checks are the builder's.
-pub fn is_plain(q: Request) -> bool
-    ensures { λ r. ⌜ PlainIf r q ⌝ }
+// No anchors, and effective before termination.
+fn is_unanchored(q: Request) -> bool
+    ensures { λ r. ⌜ r ≡ isUnanchored q ⌝ }
 {
-    let rule = q.rule;
-    let convention = q.convention;
-    let terminal = q.terminal;
-    if !rules::is_backward(rule) {
+    if q.first.day != 0 {
         return false;
     }
+    if q.penultimate.day != 0 {
+        return false;
+    }
+    q.effective.day < q.termination.day
+}
+
+// Whether a request is straight: positive tenor, no anchors, both conventions Unadjusted, end of month off, effective before
+// termination, under whatever rule.
+pub fn is_straight(q: Request) -> bool
+    ensures { λ r. ⌜ r ≡ isStraight q ⌝ }
+{
+    let convention = q.convention;
+    let terminal = q.terminal;
     if !is_positive(q.tenor) {
         return false;
     }
@@ -48,11 +57,16 @@ pub fn is_plain(q: Request) -> bool
     if q.monthend {
         return false;
     }
-    if q.first.day != 0 {
+    is_unanchored(q)
+}
+
+// Whether a request is plain: Backward and straight. The input checks are the builder's.
+pub fn is_plain(q: Request) -> bool
+    ensures { λ r. ⌜ PlainIf r q ⌝ }
+{
+    let rule = q.rule;
+    if !rules::is_backward(rule) {
         return false;
     }
-    if q.penultimate.day != 0 {
-        return false;
-    }
-    q.effective.day < q.termination.day
+    is_straight(q)
 }

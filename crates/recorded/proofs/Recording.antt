@@ -8,22 +8,19 @@ use mir.Syntax.{w64}
 use mir.Val.{toZ, ofZ}
 use mathlib.Core.List.{List, [], _∷_}
 use native.Mathlib.Omega.{arith}
-use lib.Dec.{eqb, leb}
+use lib.Dec.{leb}
 use lib.IntN.{ℤ, pos, negℤ, natAbs}
 use lib.ListN.{length, set, length-set}
 use borrow.Author.Tests.{eq-eqb, ne-eqb, le-leb, lt-leb}
-use Rattle.refusal.specs.Answer.{Answer, given, refused, then}
+use Rattle.refusal.specs.Answer.{Answer, given, refused}
 use Rattle.refusal.specs.Laws.{fails, holds, then-given, then-refused}
 use Rattle.steps.specs.declared.Request.{Request}
 use Rattle.steps.specs.declared.Built.{Built}
 use Rattle.steps.specs.Rules.{ruleNumber}
 use Rattle.steps.specs.Build.{refusedBuilt, Schedule, buildOf, answered, over, datesAfter, flagsAfter, Written}
-use Rattle.crossing.specs.declared.requests.Asked.{Asked}
-use Rattle.crossing.specs.declared.requests.Asked.the-variants as asked-is
 use Rattle.crossing.specs.Answers.{oneNumber}
 use Rattle.crossing.specs.Numbers.{unitNumber}
 use Rattle.crossing.specs.Calls.{handed}
-use Rattle.crossing.specs.Requests.{asked}
 use Rattle.recorded.specs.Builds.{outcome, howMany, recordOf, sixNumbers, recorded, countIn, Reported}
 
 -- ---- the number that is answered
@@ -119,13 +116,3 @@ module _ (x : Answer Request) (closed dates flags answer : List ℕ) {r : ℤ} (
           flags-after = w .flags-after ∙ ap (λ (y : Answer Schedule). flagsAfter y flags) o;
           answer-after = a ∙ ap (λ (y : Built). over (sixNumbers y) answer) (w .answer ∙ ap (answered q) o) ∙ rw (fits, p) refl;
         }
-
--- ---- the request that was asked
-module _ {m : Asked} {x : Answer Request} (p : asked m ≡ x) where
-  pub asked-is-given : (q : Request) → m ≡ asked-is.Is q → x ≡ given q
-  unfolding asked
-  asked-is-given q e = sym p ∙ ap asked e
-
-  pub asked-is-refused : (n : ℕ) → m ≡ asked-is.Refused n → x ≡ refused n
-  unfolding asked
-  asked-is-refused n e = sym p ∙ ap asked e

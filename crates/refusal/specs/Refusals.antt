@@ -37,6 +37,7 @@ refusals =
     ∷ refusal 15 "COLLAPSED" "the end merge leaves two dates, the second not after the first"
     ∷ refusal 16 "CODE" "no IMM code, or no IMM date"
     ∷ refusal 17 "REQUEST" "a number outside its list"
+    ∷ refusal 19 "NOTPLAIN" "the coming date alone: a request that it does not answer"
     ∷ []
 
 -- ---- what is said of the refusal with a number, or else

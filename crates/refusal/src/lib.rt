@@ -36,13 +36,15 @@ pub const COLLAPSED: u8 = 15;
 pub const CODE: u8 = 16;
 
 pub const REQUEST: u8 = 17;
+
+pub const NOTPLAIN: u8 = 19;
 // ---- made so far
 
 // A refusal's number, how many letters its name has, and the name in ASCII with spaces behind it.
 pub struct Row(pub u8, pub usize, pub [u8; 16]);
 
 // ---- made by tools/refusals.py: rows
-pub const ROWS: [Row; 17] = [
+pub const ROWS: [Row; 18] = [
     Row(UNEVEN, 6, *b"UNEVEN          "),
     Row(BOOK, 4, *b"BOOK            "),
     Row(CALENDAR, 8, *b"CALENDAR        "),
@@ -60,10 +62,11 @@ pub const ROWS: [Row; 17] = [
     Row(COLLAPSED, 9, *b"COLLAPSED       "),
     Row(CODE, 4, *b"CODE            "),
     Row(REQUEST, 7, *b"REQUEST         "),
+    Row(NOTPLAIN, 8, *b"NOTPLAIN        "),
 ];
 // ---- made so far
 
-// Whether `n` is the number of a row of document 01's table; 0 is no refusal.
+// Whether `n` is the number of a row of document 01's table, or of a request after it; 0 is no refusal.
 pub fn is_refusal(n: u8) -> bool
     ensures { λ r. ⌜ r ≡ inTable n ⌝ }
 {

@@ -1,7 +1,8 @@
 -- `recorded::build` meets its contract.
 -- Assumes nothing.
 use mathlib.Core.Path.{refl}
-use Rattle.recorded.proofs.Recording.{reported-short, reported-refused, reported-built, asked-is-given, asked-is-refused}
+use Rattle.recorded.proofs.Recording.{reported-short, reported-refused, reported-built}
+use Rattle.crossing.specs.Calls.{request-named, request-unnamed}
 use borrow.Author.Needs.{needs}
 use Rattle.recorded.proofs.build.Statement.{statement}
 use Rattle.recorded.proofs.build.Tie as tie
@@ -51,7 +52,7 @@ returns-2 c =
     let built = told .before .before .before .before .before .before in
     let request = built .before .before .before .before in
     reported-built _ _ _ _ _ (told .report .ok) (request .before .before .if1 .left) _ _ (told .report .ensures .0) (told .report .ensures .1)
-    _ _ _ (asked-is-given refl _ (request .request .given .1)) (built .build .ensures)
+    _ _ _ (request-named refl _ (request .request .given .1)) (built .build .ensures)
 
 same-length-4 : tie.Need-same-length-4
 same-length-4 c = search needs
@@ -61,7 +62,7 @@ returns-3 c =
     let told = c .before .before in
     let request = told .before .before .before .before in
     reported-refused _ _ _ _ _ (told .report2 .ok) (request .before .before .if1 .left) _ _ (told .report2 .ensures .0) (told .report2 .ensures .1)
-    _ (asked-is-refused refl _ (request .request2 .given .1)) (told .before .before .refused .ensures)
+    _ (request-unnamed refl _ (request .request2 .given .1)) (told .before .before .refused .ensures)
 
 pub build-spec : {M : Type 1} → statement M
 build-spec =

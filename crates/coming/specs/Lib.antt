@@ -1,0 +1,9 @@
+pub mod Coming
+pub mod Shows
+pub mod Promise
+pub mod Straight
+pub mod Forwards
+pub mod Backwards
+pub mod Answers
+pub mod Counted
+pub mod Checked
