@@ -2,6 +2,7 @@ pub mod Listed
 pub mod Demand
 pub mod Asked
 pub mod Forward
+pub mod Agree
 pub mod Chain
 pub mod Turns
 pub mod Falling
@@ -24,6 +25,8 @@ pub mod Shape
 pub mod Mosts
 pub mod MostOn
 pub mod Formula
+pub mod AgreeProved
+pub mod AgreeMemory
 pub mod Example
 pub mod Sums
 pub mod Points
