@@ -10,11 +10,11 @@ use Rattle.steps.specs.declared.Rule.the-variants.{Backward, Forward}
 use Rattle.steps.specs.declared.Request.{Request}
 use Rattle.steps.specs.declared.Built.{Built}
 use Rattle.steps.specs.Rules.{tenorUnder, tenorInForce}
-use Rattle.steps.specs.Build.{Schedule, Written, answered, over, datesAfter, flagsAfter, buildOf}
+use Rattle.steps.specs.Build.{Schedule, Written, answered, over, datesAfter, flagsAfter}
 use Rattle.plain.specs.Forward.{under}
 use Rattle.plain.specs.Agree.{Whole, EarlyDay, SameDay, Evenly, Direction, forward, backward, SameButRule, AgreeInMemory, EvenlyWritten, BothEvenlyInMemory}
 use Rattle.plain.specs.Memory.{tenor-under, kept-of, untouched}
-use Rattle.plain.specs.AgreeProved.{rule-of, early-same, both-agree, both-evenly}
+use Rattle.plain.specs.AgreeProved.{rule-of, early-same, both-agree-wider, both-evenly-wider}
 
 module _ (q : Request) (k : ℕ) (w : Whole q k) where
   tenor-of : (rule : Rule) → Direction rule → tenorInForce (under rule q) ≡ q .tenor
@@ -37,22 +37,22 @@ module _ (q : Request) (k : ℕ) (w : Whole q k) where
     flags-then = v .flags-after ∙ ap (λ (l : List ℕ). l ++ drop (length l) flags) (e .flags) ∙ ap (λ (x : ℕ). replicate k 1 ++ drop x flags) (length-replicate k 1);
   }
 
-pub agree-in-memory : AgreeInMemory SameDay
-agree-in-memory q k w same closed dates flags r r′ dates′ dates″ flags′ flags″ a b =
-    let c = kept-of (both-agree q k w same closed (length dates) (length flags)) a in
+pub agree-in-memory-wider : AgreeInMemory SameDay
+agree-in-memory-wider q k w same closed dates flags r r′ dates′ dates″ flags′ flags″ a b =
+    let c = kept-of (both-agree-wider q k w same closed (length dates) (length flags)) a in
     (rw (c .answer, b .answer) (same-answer q k w _), c .dates-after ∙ sym (b .dates-after), c .flags-after ∙ sym (b .flags-after))
 
-pub evenly-in-memory : BothEvenlyInMemory SameDay
-evenly-in-memory q k w same closed dates flags dates′ flags′ r c rule d v =
-    let e = both-evenly q k w same closed (length dates) (length flags) c rule d in
+pub evenly-in-memory-wider : BothEvenlyInMemory SameDay
+evenly-in-memory-wider q k w same closed dates flags dates′ flags′ r c rule d v =
+    let e = both-evenly-wider q k w same closed (length dates) (length flags) c rule d in
     record {
       left-alone = λ h. untouched (kept-of (e .refused-exactly .1 h) v);
       written-else = λ h. let s = e .given-else h in written-evenly q k w rule d (s .0) (s .2) (kept-of (s .1) v);
     }
 
 -- ---- so with a day of at most 28
-pub agree-in-memory-early : AgreeInMemory EarlyDay
-agree-in-memory-early q k w h = agree-in-memory q k w (early-same q k w h)
+pub agree-in-memory : AgreeInMemory EarlyDay
+agree-in-memory q k w h = agree-in-memory-wider q k w (early-same q k w h)
 
-pub evenly-in-memory-early : BothEvenlyInMemory EarlyDay
-evenly-in-memory-early q k w h = evenly-in-memory q k w (early-same q k w h)
+pub evenly-in-memory : BothEvenlyInMemory EarlyDay
+evenly-in-memory q k w h = evenly-in-memory-wider q k w (early-same q k w h)

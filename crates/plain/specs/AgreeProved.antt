@@ -286,26 +286,26 @@ module _ (q : Request) (k : ℕ) (w : Whole q k) where
             absurd (omega (arith, getD-replicate {A = ℕ} k 0 1 0 (w .some)))
 
 -- ---- where the checks are passed, and on every input
-pub both-evenly : BothEvenly SameDay
-both-evenly q k w same closed dates flags c Forward forward = forward-kept q k w closed dates flags c
-both-evenly q k w same closed dates flags c Backward backward = backward-kept q k w closed dates flags c same
+pub both-evenly-wider : BothEvenly SameDay
+both-evenly-wider q k w same closed dates flags c Forward forward = forward-kept q k w closed dates flags c
+both-evenly-wider q k w same closed dates flags c Backward backward = backward-kept q k w closed dates flags c same
 
-pub both-agree : BothAgree SameDay
+pub both-agree-wider : BothAgree SameDay
 unfolding buildOf admitted
-both-agree q k w same closed dates flags = by (firstRow (inputRows (under Backward q) closed dates flags)) refl
+both-agree-wider q k w same closed dates flags = by (firstRow (inputRows (under Backward q) closed dates flags)) refl
   where
     by : (x : ℕ) → firstRow (inputRows (under Backward q) closed dates flags) ≡ x → buildOf (under Forward q) closed dates flags ≡ buildOf (under Backward q) closed dates flags
     by zero h =
         let c = passes-under (q .rule) (under Backward q) closed dates flags (passed (under Backward q) closed dates flags h) in
-        settled-evenly (both-evenly q k w same closed dates flags c Forward forward) (both-evenly q k w same closed dates flags c Backward backward)
+        settled-evenly (both-evenly-wider q k w same closed dates flags c Forward forward) (both-evenly-wider q k w same closed dates flags c Backward backward)
     by (suc x) h = rw (ap firstRow (same-rows q k w closed dates flags) ∙ h, h) refl
 
 pub agree-exactly : AgreeExactly
-agree-exactly q k w closed dates flags c fits = (differ q k w closed dates flags c fits, λ same. both-agree q k w same closed dates flags)
+agree-exactly q k w closed dates flags c fits = (differ q k w closed dates flags c fits, λ same. both-agree-wider q k w same closed dates flags)
 
 -- ---- so with a day of at most 28
-pub both-evenly-early : BothEvenly EarlyDay
-both-evenly-early q k w h = both-evenly q k w (early-same q k w h)
+pub both-evenly : BothEvenly EarlyDay
+both-evenly q k w h = both-evenly-wider q k w (early-same q k w h)
 
-pub both-agree-early : BothAgree EarlyDay
-both-agree-early q k w h = both-agree q k w (early-same q k w h)
+pub both-agree : BothAgree EarlyDay
+both-agree q k w h = both-agree-wider q k w (early-same q k w h)

@@ -27,6 +27,7 @@ pub mod MostOn
 pub mod Formula
 pub mod AgreeProved
 pub mod AgreeMemory
+pub mod AgreeExample
 pub mod Example
 pub mod Sums
 pub mod Points
