@@ -1,10 +1,10 @@
 -- A walk whose candidates are kept one after the other up to the j-th, and whose next ends it.
 -- Assumes nothing.
 use Prim.Native.Nat.{ℕ, zero, suc, _+_, _-_, _≤_, _<_}
-use mathlib.Core.Path.{_≡_, refl, ap, _∙_}
+use mathlib.Core.Path.{_≡_, refl, ap, sym, _∙_}
 use mathlib.Core.Logic.{inl, inr, ⊎-elim}
 use mathlib.Core.List.{List, [], _∷_}
-use native.Mathlib.Nat.{not-suc-le-zero, eq-or-lt-of-le}
+use native.Mathlib.Nat.{not-suc-le-zero, eq-or-lt-of-le, sub-zero}
 use native.Mathlib.Omega.{arith}
 use lib.ListN.{length, getD, replicate}
 use borrow.Author.Tests.{lt-ltb, le-ltb}
@@ -29,6 +29,11 @@ module _ (line : ℕ → ℕ) where
   pub chain-first : (j : ℕ) → getD (chain j) 0 0 ≡ line j
   chain-first zero = refl
   chain-first (suc j) = refl
+
+  pub chain-at : (j i : ℕ) → i ≤ j → getD (chain j) i 0 ≡ line (j - i)
+  chain-at j zero h = chain-first j ∙ ap line (sym (sub-zero j))
+  chain-at zero (suc i) h = absurd (not-suc-le-zero h)
+  chain-at (suc j) (suc i) h = chain-at j i (omega arith) ∙ ap line (omega arith)
 
   pub in-chain : (j k : ℕ) → k ≤ j → line k ∈ chain j
   in-chain zero zero h = inl refl

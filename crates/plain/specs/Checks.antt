@@ -30,21 +30,22 @@ no-rows : firstRow [] ≡ 0
 unfolding firstRow
 no-rows = refl
 
-module _ (q : Request) (closed : List ℕ) (dates flags : ℕ) (p : Plain q) where
-  passed : firstRow (inputRows q closed dates flags) ≡ 0 → Passes q closed dates flags
-  unfolding datesOk
-  passed h =
-      let a = table.accepted q closed dates flags h in
-      let e = both (inBook (q .effective .day)) _ (a .dates-hold) in
-      let t = both (inBook (q .termination .day)) _ (e .1) in
-      record {
-        even = a .even;
-        effective-in-book = e .0;
-        termination-in-book = t .0;
-        calendar-sound = a .calendar-holds;
-        tenor-short = a .tenor-holds;
-      }
+-- what is not refused passes, plain or not
+pub passed : (q : Request) (closed : List ℕ) (dates flags : ℕ) → firstRow (inputRows q closed dates flags) ≡ 0 → Passes q closed dates flags
+unfolding datesOk
+passed q closed dates flags h =
+    let a = table.accepted q closed dates flags h in
+    let e = both (inBook (q .effective .day)) _ (a .dates-hold) in
+    let t = both (inBook (q .termination .day)) _ (e .1) in
+    record {
+      even = a .even;
+      effective-in-book = e .0;
+      termination-in-book = t .0;
+      calendar-sound = a .calendar-holds;
+      tenor-short = a .tenor-holds;
+    }
 
+module _ (q : Request) (closed : List ℕ) (dates flags : ℕ) (p : Plain q) where
   even-row : dates ≡ flags → not (eqb dates flags) ≡ false
   even-row h = rw (eq-eqb dates flags h)
 
@@ -81,4 +82,4 @@ module _ (q : Request) (closed : List ℕ) (dates flags : ℕ) (p : Plain q) whe
       (next _ _ _ (rw (p .no-month-end)) no-rows)))))))))))
 
 pub checks-are : ChecksAre
-checks-are q closed dates flags p = (passed q closed dates flags p, passes q closed dates flags p)
+checks-are q closed dates flags p = (passed q closed dates flags, passes q closed dates flags p)

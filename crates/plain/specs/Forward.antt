@@ -7,17 +7,35 @@ use mathlib.Core.Bool.{true, false}
 use mathlib.Core.List.{List, [], _∷_, _++_}
 use lib.IntN.{pos}
 use lib.Signed.{ltZ}
-use lib.ListN.{length, replicate}
+use lib.ListN.{length, drop, replicate}
 use Rattle.refusal.specs.Answer.{Answer, given, refused, ROOM}
 use Rattle.date.specs.Date.{shifted}
 use Rattle.calendar.specs.declared.Convention.the-variants.{Unadjusted}
+use Rattle.steps.specs.declared.Rule.{Rule}
 use Rattle.steps.specs.declared.Rule.the-variants.{Forward}
 use Rattle.steps.specs.declared.Request.{Request}
-use Rattle.steps.specs.Build.{Schedule, buildOf}
+use Rattle.steps.specs.declared.Built.{Built}
+use Rattle.steps.specs.Build.{Schedule, Written, buildOf}
 use Rattle.steps.specs.Table.{firstRow, inputRows}
 use Rattle.plain.specs.Listed.{Lists}
-use Rattle.plain.specs.Demand.{Passes, tenorLength, countedIn, tenorCount, TooLong}
+use Rattle.plain.specs.Demand.{Passes, tenorLength, countedIn, tenorCount, TooLong, LeftAlone}
 use Rattle.outcomes.specs.NoLimit.{stepsIn}
+
+-- the same request under another rule
+abbrev pub under : Rule → Request → Request
+under rule q =
+    record {
+      effective = q .effective;
+      termination = q .termination;
+      tenor = q .tenor;
+      rule = rule;
+      convention = q .convention;
+      terminal = q .terminal;
+      monthend = q .monthend;
+      first = q .first;
+      penultimate = q .penultimate;
+      mask = q .mask;
+    }
 
 -- ---- a forward build with positive tenor, no anchors, both conventions Unadjusted, end of month off, effective before termination
 pub record PlainForward (q : Request) : Type 0 where
@@ -117,3 +135,22 @@ abbrev pub ChecksOn : Type 0
 ChecksOn =
     (q : Request) (closed : List ℕ) (dates flags : ℕ) → PlainForward q
     → (firstRow (inputRows q closed dates flags) ≡ 0) ↔ Passes q closed dates flags
+
+-- ---- the same in memory (shown in Memory)
+pub record WrittenOn (q : Request) (ds : List ℕ) (m : ℕ) (r : Built) (dates flags dates′ flags′ : List ℕ) : Type 0 where
+  pub answer : r ≡ record { number = 0; count = length ds; tries = 1 + m / tenorCount q; rule = Forward; tenor = q .tenor }
+  -- the dates stand at the start of one list, their flags at the start of the other; later places hold what they held
+  pub dates-then : dates′ ≡ ds ++ drop (length ds) dates
+  pub its-flags : List ℕ
+  pub flagged : FlaggedOn q ds its-flags
+  pub flags-then : flags′ ≡ its-flags ++ drop (length its-flags) flags
+
+pub record InMemoryOn (q : Request) (ds : List ℕ) (m : ℕ) (r : Built) (dates flags dates′ flags′ : List ℕ) : Type 0 where
+  pub left-alone : TooLong (length dates) ds → LeftAlone r dates flags dates′ flags′
+  pub written-else : (TooLong (length dates) ds → ⊥) → WrittenOn q ds m r dates flags dates′ flags′
+
+abbrev pub DemandOnInMemory : Type 0
+DemandOnInMemory =
+    (q : Request) (closed dates flags dates′ flags′ : List ℕ) (r : Built) → PlainForward q → Passes q closed (length dates) (length flags)
+    → Written q (buildOf q closed (length dates) (length flags)) r dates flags dates′ flags′
+    → (ds : List ℕ) → OwedOn q ds → (m : ℕ) → MostOn q m → InMemoryOn q ds m r dates flags dates′ flags′

@@ -3,6 +3,7 @@ pub mod Demand
 pub mod Asked
 pub mod Forward
 pub mod Straight
+pub mod Agree
 pub mod Chain
 pub mod Turns
 pub mod Falling
@@ -25,6 +26,9 @@ pub mod Shape
 pub mod Mosts
 pub mod MostOn
 pub mod Formula
+pub mod AgreeProved
+pub mod AgreeMemory
+pub mod AgreeExample
 pub mod Example
 pub mod Sums
 pub mod Points

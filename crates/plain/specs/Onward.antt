@@ -31,7 +31,7 @@ use Rattle.outcomes.specs.Span.{InSpan}
 use Rattle.plain.specs.Listed.{_∈_, Ascending}
 use Rattle.plain.specs.Demand.{Plain, tenorLength, tenorCount, Passes}
 use Rattle.plain.specs.Turns.{stays}
-use Rattle.plain.specs.Forward.{PlainForward, tenorsAfter, added, MostOn}
+use Rattle.plain.specs.Forward.{under, PlainForward, tenorsAfter, added, MostOn}
 use Rattle.plain.specs.Rising.{fromEffective, Rises, GeneratedOn, rising}
 use Rattle.plain.specs.Mirror.{Climb, some-added, one-added, counted-on}
 use Rattle.plain.specs.Finished.{first-same, last-same, middle-same, merged-same}
@@ -40,21 +40,14 @@ use Rattle.plain.specs.Added.{candidate-on, counts-on, climb-of}
 use Rattle.plain.specs.Walked.{rule-is}
 use Rattle.plain.specs.Checks.{checks-are}
 
--- the same request under another rule
-abbrev pub under : Rule → Request → Request
-under rule q =
-    record {
-      effective = q .effective;
-      termination = q .termination;
-      tenor = q .tenor;
-      rule = rule;
-      convention = q .convention;
-      terminal = q .terminal;
-      monthend = q .monthend;
-      first = q .first;
-      penultimate = q .penultimate;
-      mask = q .mask;
-    }
+pub passes-under : (rule : Rule) (q : Request) (closed : List ℕ) (dates flags : ℕ) → Passes q closed dates flags → Passes (under rule q) closed dates flags
+passes-under rule q closed dates flags c = record {
+  even = c .even;
+  effective-in-book = c .effective-in-book;
+  termination-in-book = c .termination-in-book;
+  calendar-sound = c .calendar-sound;
+  tenor-short = c .tenor-short;
+}
 
 module _ (q : Request) (p : PlainForward q) where
   pub some-length : 1 ≤ tenorLength q
@@ -133,7 +126,7 @@ module _ (q : Request) (p : PlainForward q) where
     finished-on = rw (rule-on, adjusted-same) (merged-same ds fs ascends)
 
   -- ---- the input checks
-  plain-back : Plain (under Backward q)
+  pub plain-back : Plain (under Backward q)
   plain-back = record {
     backward = refl;
     positive = p .positive;
@@ -152,8 +145,8 @@ module _ (q : Request) (p : PlainForward q) where
   pub checks-on : (closed : List ℕ) (dates flags : ℕ) → (firstRow (inputRows q closed dates flags) ≡ 0) ↔ Passes q closed dates flags
   checks-on closed dates flags =
       let k = checks-are (under Backward q) closed dates flags plain-back in (
-        (λ h. let c = k .0 (ap firstRow (sym (rows-on closed dates flags)) ∙ h) in record { even = c .even; effective-in-book = c .effective-in-book; termination-in-book = c .termination-in-book; calendar-sound = c .calendar-sound; tenor-short = c .tenor-short }),
-        (λ c. ap firstRow (rows-on closed dates flags) ∙ k .1 (record { even = c .even; effective-in-book = c .effective-in-book; termination-in-book = c .termination-in-book; calendar-sound = c .calendar-sound; tenor-short = c .tenor-short })),
+        (λ h. passes-under (q .rule) (under Backward q) closed dates flags (k .0 (ap firstRow (sym (rows-on closed dates flags)) ∙ h))),
+        (λ c. ap firstRow (rows-on closed dates flags) ∙ k .1 (passes-under Backward q closed dates flags c)),
       )
 
   -- ---- the candidates
