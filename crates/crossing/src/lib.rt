@@ -1,7 +1,6 @@
 // What crosses to other languages and to bytes, in numbers: the choices of a request, and answers. Here stand the units, the
 // rules, the conventions and the flags, by number and back.
 ghost use mathlib.Core.Path.{_≡_};
-ghost use Rattle.steps.specs.Rules.{ruleNumber};
 ghost use Rattle.crossing.specs.Numbers.{unitOf, ruleOf, conventionOf, flagOf, unitNumber, namedUnit, namedRule, namedConvention, namedFlag};
 use calendar::Convention;
 use period::Unit;
@@ -97,22 +96,5 @@ pub fn unit_number(unit: Unit) -> u32
         Unit::Weeks => 1,
         Unit::Months => 2,
         Unit::Years => 3,
-    }
-}
-
-pub fn rule_number(rule: Rule) -> u8
-    ensures { λ r. ⌜ r ≡ ruleNumber rule ⌝ }
-{
-    match rule {
-        Rule::Zero => 0,
-        Rule::Backward => 1,
-        Rule::Forward => 2,
-        Rule::Twentieth => 3,
-        Rule::TwentiethIMM => 4,
-        Rule::ThirdWednesday => 5,
-        Rule::ThirdWednesdayInclusive => 6,
-        Rule::OldCDS => 7,
-        Rule::CDS => 8,
-        Rule::CDS2015 => 9,
     }
 }

@@ -13,6 +13,7 @@ use crossing::requests::Asked;
 use period::sign;
 use request::Decoded;
 use steps::Built;
+use steps::rules;
 
 fn put_record(b: Built, answer: &mut [u32])
     requires { ⌜ 6 ≤ length (now answer) ⌝ }
@@ -22,7 +23,7 @@ fn put_record(b: Built, answer: &mut [u32])
     answer[1] = b.count;
     answer[2] = b.tries;
     let rule = b.rule;
-    answer[3] = crossing::rule_number(rule) as u32;
+    answer[3] = rules::rule_number(rule) as u32;
     let tenor = b.tenor;
     answer[4] = sign::size(tenor.length);
     let unit = tenor.unit;

@@ -12,6 +12,7 @@ use period::Period;
 use period::Unit;
 use period::sign;
 use steps::Request;
+use steps::rules;
 
 // Whether sixteen bits hold a number with its sign.
 fn fits_sixteen(n: i32) -> bool
@@ -152,7 +153,7 @@ fn put_choices(q: Request, out: &mut [u8])
     let rule = q.rule;
     let convention = q.convention;
     let terminal = q.terminal;
-    put_byte(out, 20, 4, crossing::rule_number(rule));
+    put_byte(out, 20, 4, rules::rule_number(rule));
     put_byte(out, 24, 5, convention_number(convention));
     put_byte(out, 28, 6, convention_number(terminal));
     put_byte(out, 32, 7, bit_of(q.monthend));

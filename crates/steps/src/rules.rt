@@ -1,12 +1,30 @@
-// The groups of rules that the steps speak of, and the rule and the tenor in force.
+// The rules' numbers, the groups of rules that the steps speak of, and the rule and the tenor in force.
 ghost use mathlib.Core.Path.{_≡_};
-ghost use Rattle.steps.specs.Rules.{isZero, isBackward, onTwentieths, inImmMonths, isCredit, isOldCDS, ruleInForce, tenorInForce, tenorUnder};
+ghost use Rattle.steps.specs.Rules.{ruleNumber, isZero, isBackward, onTwentieths, inImmMonths, isCredit, isOldCDS, ruleInForce, tenorInForce, tenorUnder};
 ghost use Rattle.steps.specs.Fewer.{settles};
 use crate::Request;
 use crate::Rule;
 use crate::tenors;
 use period::Period;
 use period::Unit;
+
+// Document 01's number of a rule.
+pub fn rule_number(rule: Rule) -> u8
+    ensures { λ r. ⌜ r ≡ ruleNumber rule ⌝ }
+{
+    match rule {
+        Rule::Zero => 0,
+        Rule::Backward => 1,
+        Rule::Forward => 2,
+        Rule::Twentieth => 3,
+        Rule::TwentiethIMM => 4,
+        Rule::ThirdWednesday => 5,
+        Rule::ThirdWednesdayInclusive => 6,
+        Rule::OldCDS => 7,
+        Rule::CDS => 8,
+        Rule::CDS2015 => 9,
+    }
+}
 
 pub fn is_zero(rule: Rule) -> bool
     ensures { λ r. ⌜ r ≡ isZero rule ⌝ }

@@ -9,7 +9,7 @@ use Rattle.recorded.proofs.put_record.Statement.{statement}
 use Rattle.recorded.proofs.put_record.Tie as tie
 use Rattle.recorded.proofs.put_record.Reads as reads
 use Rattle.recorded.proofs.put_record.Lts as lts
-use Rattle.crossing.proofs.rule_number.Reads as rule-number-reads
+use Rattle.steps.proofs.rules.rule_number.Reads as rule-number-reads
 use Rattle.crossing.proofs.unit_number.Reads as unit-number-reads
 use Rattle.period.proofs.sign.size.Reads as size-reads
 

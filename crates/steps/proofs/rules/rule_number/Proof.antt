@@ -1,11 +1,11 @@
--- `crossing::rule_number` meets its contract.
+-- `steps::rules::rule_number` meets its contract.
 -- Assumes nothing.
 use Rattle.steps.specs.Rules.{ruleNumber}
 use borrow.Author.Needs.{needs}
-use Rattle.crossing.proofs.rule_number.Statement.{statement}
-use Rattle.crossing.proofs.rule_number.Tie as tie
-use Rattle.crossing.proofs.rule_number.Reads as reads
-use Rattle.crossing.proofs.rule_number.Lts as lts
+use Rattle.steps.proofs.rules.rule_number.Statement.{statement}
+use Rattle.steps.proofs.rules.rule_number.Tie as tie
+use Rattle.steps.proofs.rules.rule_number.Reads as reads
+use Rattle.steps.proofs.rules.rule_number.Lts as lts
 
 enum-told : tie.Need-enum-told
 enum-told c = search needs
