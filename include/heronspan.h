@@ -42,7 +42,8 @@ enum {
     HERONSPAN_ROOM = 14,            /* a lent list is too short */
     HERONSPAN_COLLAPSED = 15,       /* the end merge leaves two dates, the second not after the first */
     HERONSPAN_CODE = 16,            /* no IMM code, or no IMM date */
-    HERONSPAN_REQUEST = 17          /* a number outside its list */
+    HERONSPAN_REQUEST = 17,         /* a number outside its list */
+    HERONSPAN_SHORTEND = 27         /* end of month on, a positive tenor in days or weeks, and a rule other than Zero */
 };
 /* ---- made so far */
 
@@ -262,6 +263,8 @@ static inline const char *heronspan_refusal_name(int64_t answer) {
         return "CODE";
     case -HERONSPAN_REQUEST:
         return "REQUEST";
+    case -HERONSPAN_SHORTEND:
+        return "SHORTEND";
     /* made so far */
     default:
         return "";

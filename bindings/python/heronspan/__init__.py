@@ -44,6 +44,7 @@ class Refusal(IntEnum):
     COLLAPSED = 15  # the end merge leaves two dates, the second not after the first
     CODE = 16  # no IMM code, or no IMM date
     REQUEST = 17  # a number outside its list
+    SHORTEND = 27  # end of month on, a positive tenor in days or weeks, and a rule other than Zero
     # made so far
 
 

@@ -47,11 +47,13 @@ pub enum Refusal {
     Code = 16,
     /// A number outside its list.
     Request = 17,
+    /// End of month on, a positive tenor in days or weeks, and a rule other than Zero.
+    Shortend = 27,
     // made so far
 }
 
 // made by tools/refusals.py: names
-const REFUSALS: [(Refusal, &str); 17] = [
+const REFUSALS: [(Refusal, &str); 18] = [
     (Refusal::Uneven, "UNEVEN"),
     (Refusal::Book, "BOOK"),
     (Refusal::Calendar, "CALENDAR"),
@@ -69,6 +71,7 @@ const REFUSALS: [(Refusal, &str); 17] = [
     (Refusal::Collapsed, "COLLAPSED"),
     (Refusal::Code, "CODE"),
     (Refusal::Request, "REQUEST"),
+    (Refusal::Shortend, "SHORTEND"),
 ];
 // made so far
 

@@ -102,6 +102,7 @@ fn twentieths() {
 fn refusals_have_their_names() {
     assert_eq!(Refusal::Book.to_string(), "refused 2 BOOK");
     assert_eq!((Refusal::Request.number(), Refusal::Request.name()), (17, "REQUEST"));
+    assert_eq!((Refusal::Shortend.number(), Refusal::Shortend.name()), (27, "SHORTEND"));
 }
 
 #[test]

@@ -5,6 +5,7 @@ use mathlib.Core.Bool.{Bool, true, false, false≢true, not}
 use lib.Dec.{ltb}
 use borrow.Author.Needs.{needs}
 use borrow.Author.Tests.{ltb-true, lt-ltb, not-true, not-false}
+use Rattle.period.specs.Signed.{isPositive}
 use Rattle.calendar.specs.declared.Convention.{Convention}
 use Rattle.calendar.specs.declared.Convention.the-variants.{Unadjusted, Following, ModifiedFollowing, Preceding, ModifiedPreceding}
 use Rattle.steps.specs.declared.Rule.the-variants.{Backward}
@@ -12,7 +13,7 @@ use Rattle.steps.specs.declared.Request.{Request}
 use Rattle.steps.specs.Rules.{ruleNumber, oneOf, isBackward}
 use Rattle.steps.specs.RuleLaws.{only}
 use Rattle.plain.specs.Demand.{Plain, PlainIf}
-use Rattle.plain.specs.Asked.{isUnadjusted, isPositive}
+use Rattle.plain.specs.Asked.{isUnadjusted}
 
 unadjusted-only : (c : Convention) → isUnadjusted c ≡ true → c ≡ Unadjusted
 unfolding isUnadjusted

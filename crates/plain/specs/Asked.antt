@@ -1,8 +1,6 @@
 -- The tests of `is_plain` that are no single comparison.
 -- Assumes nothing.
 use mathlib.Core.Bool.{Bool, true, false}
-use lib.IntN.{ℤ, pos}
-use lib.Signed.{ltZ}
 use Rattle.calendar.specs.declared.Convention.{Convention}
 use Rattle.calendar.specs.declared.Convention.the-variants.{Unadjusted, Following, ModifiedFollowing, Preceding, ModifiedPreceding}
 
@@ -12,6 +10,3 @@ isUnadjusted Following = false
 isUnadjusted ModifiedFollowing = false
 isUnadjusted Preceding = false
 isUnadjusted ModifiedPreceding = false
-
-abbrev pub isPositive : ℤ → Bool
-isPositive z = ltZ (pos 0) z

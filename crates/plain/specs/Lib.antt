@@ -20,3 +20,4 @@ pub mod Coming
 pub mod Example
 pub mod Sums
 pub mod Points
+pub mod ShortEnds

@@ -59,6 +59,9 @@ CODE = 16
 abbrev pub REQUEST : ℕ
 REQUEST = 17
 
+abbrev pub SHORTEND : ℕ
+SHORTEND = 27
+
 -- ---- made so far
 
 -- document 01's number for an answer: 0 is no refusal
