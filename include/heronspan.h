@@ -43,7 +43,8 @@ enum {
     HERONSPAN_COLLAPSED = 15,       /* the end merge leaves two dates, the second not after the first */
     HERONSPAN_CODE = 16,            /* no IMM code, or no IMM date */
     HERONSPAN_REQUEST = 17,         /* a number outside its list */
-    HERONSPAN_NOTPLAIN = 19         /* the coming date alone: a request that it does not answer */
+    HERONSPAN_NOTPLAIN = 19,        /* the coming date alone: a request that it does not answer */
+    HERONSPAN_SHORTEND = 27         /* end of month on, a positive tenor in days or weeks, and a rule other than Zero */
 };
 /* ---- made so far */
 
@@ -282,6 +283,8 @@ static inline const char *heronspan_refusal_name(int64_t answer) {
         return "REQUEST";
     case -HERONSPAN_NOTPLAIN:
         return "NOTPLAIN";
+    case -HERONSPAN_SHORTEND:
+        return "SHORTEND";
     /* made so far */
     default:
         return "";

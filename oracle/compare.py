@@ -148,6 +148,8 @@ def hold_build(line, said, traced, own, own_traced, previous):
         if number in (2, 3, 5):
             name = stopped(number, words)
             return f"refused {number}", [f"{name}: the Rust's {said.split()[0]}"]
+        if number == reference.SHORTEND:
+            return "refused 27, not held to the Rust", [f"end of month with a tenor in days or weeks: the Rust's {said.split()[0]}"]
         if number in (4, 6, 7, 8, 9, 10, 11, 12):
             if said != "error" or traced != f"error {number}":
                 raise Differs(f"{traced}, refused {number}")

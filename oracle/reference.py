@@ -1,5 +1,6 @@
 #!/usr/bin/env python3
-"""Document 01's steps, with the decisions of docs/DECISIONS.md, as a third opinion beside the Rust and Heronspan.
+"""Document 01's steps, with the landed requests of 02 and the decisions of docs/DECISIONS.md, as a third opinion beside the Rust
+and Heronspan.
 
     oracle/reference.py [--room N] < questions > answers
 
@@ -20,6 +21,7 @@ FIRST_RANGE, FIRST_IMM, FIRST_RULE = 6, 7, 8
 LAST_RANGE, LAST_IMM, LAST_RULE = 9, 10, 11
 MONTHEND, CLOSED, ROOM, COLLAPSED, CODE, REQUEST = 12, 13, 14, 15, 16, 17
 NOTPLAIN = 19
+SHORTEND = 27
 
 ZERO, BACKWARD, FORWARD, TWENTIETH, TWENTIETH_IMM, WEDNESDAY, WEDNESDAY_ALL, OLD_CDS, CDS, CDS2015 = range(10)
 UNADJUSTED, FOLLOWING, MODIFIED_FOLLOWING, PRECEDING, MODIFIED_PRECEDING = range(5)
@@ -270,7 +272,7 @@ class Build:
         self.dates, self.flags, self.tries, self.room, self.peak = [], [], 0, PLACES, 0
 
     def check(self):
-        """Refusals 2 to 12, in order; the rule in force."""
+        """Refusals 2 to 12 and 27, in order; the rule in force."""
         need(in_book(self.effective) and in_book(self.termination), BOOK)
         need(self.first == 0 or in_book(self.first), BOOK)
         need(self.penultimate == 0 or in_book(self.penultimate), BOOK)
@@ -290,6 +292,7 @@ class Build:
             need(rule != WEDNESDAY or is_imm(self.penultimate, False), LAST_IMM)
             need(plain or rule == WEDNESDAY, LAST_RULE)
         need(not self.month_end or rule in (ZERO, BACKWARD, FORWARD), MONTHEND)
+        need(not self.month_end or rule == ZERO or self.unit in "MY", SHORTEND)
 
     def run(self, room):
         self.check()

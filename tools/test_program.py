@@ -107,6 +107,8 @@ class Refusals(unittest.TestCase):
         self.refused(10, *year, "--rule", "ThirdWednesday", "--penultimate", "2025-03-18")
         self.refused(11, *year, "--rule", "Twentieth", "--penultimate", "2025-06-20")
         self.refused(12, *year, "--rule", "CDS", "--eom")
+        self.refused(27, "2025-01-31", "2025-03-31", "1W", "--eom")
+        self.refused(27, "2025-01-31", "2025-03-31", "366D", "--rule", "Forward", "--eom")
 
     def test_order_of_rows(self):
         self.refused(2, "1900-12-31", "2026-01-01", "-3M", "--closed-days", "mon,tue,wed,thu,fri,sat,sun")

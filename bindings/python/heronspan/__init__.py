@@ -45,6 +45,7 @@ class Refusal(IntEnum):
     CODE = 16  # no IMM code, or no IMM date
     REQUEST = 17  # a number outside its list
     NOTPLAIN = 19  # the coming date alone: a request that it does not answer
+    SHORTEND = 27  # end of month on, a positive tenor in days or weeks, and a rule other than Zero
     # made so far
 
 

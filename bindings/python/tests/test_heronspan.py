@@ -207,6 +207,13 @@ class Schedules(Refusals):
         self.refused("NEGATIVE", h.build, date(2025, 1, 1), date(2025, 3, 1), -1, Unit.MONTHS)
         self.refused("REQUEST", h.build, date(2025, 1, 1), date(2025, 3, 1), 1, Unit.MONTHS, rule=10)
 
+    def test_month_end_with_short_tenors(self) -> None:
+        asked = (date(2025, 1, 31), date(2025, 3, 31), 1, Unit.WEEKS)
+        self.refused("SHORTEND", h.build, *asked, monthend=True)
+        self.refused("SHORTEND", h.build, *asked, monthend=True, room=0)
+        self.refused("MONTHEND", h.build, *asked, rule=Rule.TWENTIETH, monthend=True)
+        self.assertEqual(len(h.build(*asked, rule=Rule.ZERO, monthend=True).dates), 2)
+
     def test_twentieths(self) -> None:
         self.assertEqual(h.next_twentieth(date(2025, 4, 25), Rule.CDS), date(2025, 6, 20))
         self.assertEqual(h.next_twentieth(date(2025, 4, 25), Rule.TWENTIETH), date(2025, 5, 20))

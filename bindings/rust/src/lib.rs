@@ -49,11 +49,13 @@ pub enum Refusal {
     Request = 17,
     /// The coming date alone: a request that it does not answer.
     Notplain = 19,
+    /// End of month on, a positive tenor in days or weeks, and a rule other than Zero.
+    Shortend = 27,
     // made so far
 }
 
 // made by tools/refusals.py: names
-const REFUSALS: [(Refusal, &str); 18] = [
+const REFUSALS: [(Refusal, &str); 19] = [
     (Refusal::Uneven, "UNEVEN"),
     (Refusal::Book, "BOOK"),
     (Refusal::Calendar, "CALENDAR"),
@@ -72,6 +74,7 @@ const REFUSALS: [(Refusal, &str); 18] = [
     (Refusal::Code, "CODE"),
     (Refusal::Request, "REQUEST"),
     (Refusal::Notplain, "NOTPLAIN"),
+    (Refusal::Shortend, "SHORTEND"),
 ];
 // made so far
 

@@ -101,8 +101,8 @@ fn the_coming_date() {
     assert_eq!(quarterly().coming(day(2025, 12, 20)), Ok(Coming::Nothing));
     assert_eq!(quarterly().rule(Rule::Forward).coming(day(2025, 10, 15)), ending(12, 20, false));
     assert_eq!(quarterly().coming(Date::NONE), Err(Refusal::Book));
-    assert_eq!(quarterly().first(day(2025, 3, 20)).coming(day(2025, 2, 1)), Err(Refusal::NotPlain));
-    assert_eq!(Refusal::NotPlain.to_string(), "refused 19 NOTPLAIN");
+    assert_eq!(quarterly().first(day(2025, 3, 20)).coming(day(2025, 2, 1)), Err(Refusal::Notplain));
+    assert_eq!(Refusal::Notplain.to_string(), "refused 19 NOTPLAIN");
 }
 
 #[test]
@@ -116,6 +116,7 @@ fn twentieths() {
 fn refusals_have_their_names() {
     assert_eq!(Refusal::Book.to_string(), "refused 2 BOOK");
     assert_eq!((Refusal::Request.number(), Refusal::Request.name()), (17, "REQUEST"));
+    assert_eq!((Refusal::Shortend.number(), Refusal::Shortend.name()), (27, "SHORTEND"));
 }
 
 #[test]

@@ -151,6 +151,24 @@ module _ (a b : ℕ) where
 pub test-after : (a t b : Bool) → a ≡ true → t ≡ b → not t ≡ (a && not b)
 test-after a t b e p = rw (e, p)
 
+-- ---- the row of short tenors with end of month: its four tests, over plain truth values
+module _ (m p d z : Bool) where
+  pub short-off : m ≡ false → false ≡ (m && ((p && d) && not z))
+  short-off e = rw e
+
+  module _ (on : m ≡ true) (t : Bool) (tp : t ≡ p) where
+    pub short-none : t ≡ false → false ≡ (m && ((p && d) && not z))
+    short-none e = let f : p ≡ false = sym tp ∙ e in rw (on, f)
+
+    module _ (some : t ≡ true) (u : Bool) (ud : u ≡ d) where
+      pub short-months : u ≡ false → false ≡ (m && ((p && d) && not z))
+      short-months e = let f : p ≡ true = sym tp ∙ some in let g : d ≡ false = sym ud ∙ e in rw (on, f, g)
+
+      pub short-rule : (w : Bool) → u ≡ true → w ≡ z → not w ≡ (m && ((p && d) && not z))
+      short-rule w e wz = let f : p ≡ true = sym tp ∙ some in let g : d ≡ true = sym ud ∙ e in rw (on, f, g, wz)
+
+pub ruleset short-ends = (short-off, short-none, short-months, short-rule, needs)
+
 pub under-rule : (q : Request) (rule : Rule) (r : ℕ) → rule ≡ ruleInForce q → r ≡ firstRow (rowsUnder q rule) → r ≡ firstRow (rowsUnder q (ruleInForce q))
 under-rule q rule r e h = rw e at h
 

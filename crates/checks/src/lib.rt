@@ -1,9 +1,9 @@
-// The input checks of a build: the rows 1 to 12 of document 01's table, in its order.
+// The input checks of a build: the rows 1 to 12 of document 01's table, in its order, and 27 behind them.
 ghost use mathlib.Core.Path.{_≡_};
 ghost use mathlib.Core.Bool.{not, false, _&&_};
 ghost use Rattle.calendar.specs.Open.{calendarOk};
 ghost use Rattle.imm.specs.Imm.{isImm};
-ghost use Rattle.steps.specs.Table.{numberOr, firstRow, anchorOk, datesOk, firstOutside, lastOutside, monthendAllowed, anchorRows, firstRows, lastRows, rowsUnder, inputRows};
+ghost use Rattle.steps.specs.Table.{numberOr, firstRow, anchorOk, datesOk, firstOutside, lastOutside, monthendAllowed, shortEnd, anchorRows, firstRows, lastRows, rowsUnder, inputRows};
 use calendar::Checked;
 use date::in_book;
 use steps::Request;
@@ -79,6 +79,24 @@ fn denies_month_end(q: Request, rule: Rule) -> bool
     false
 }
 
+// End of month is on, with a tenor that counts days.
+fn is_short_end(q: Request, rule: Rule) -> bool
+    ensures { λ r. ⌜ r ≡ shortEnd q rule ⌝ }
+{
+    if q.monthend {
+        let tenor = q.tenor;
+        if tenors::is_positive(tenor) {
+            let unit = tenor.unit;
+            if tenors::is_in_days(unit) {
+                return !rules::is_zero(rule);
+            }
+            return false;
+        }
+        return false;
+    }
+    false
+}
+
 fn number_if(holds: bool, number: u8) -> u8
     ensures { λ r. ⌜ r ≡ numberOr holds number 0 ⌝ }
 {
@@ -134,7 +152,7 @@ fn last_refusal(q: Request, rule: Rule) -> u8
     )
 }
 
-// The rows that read the rule in force, 6 to 12.
+// The rows that read the rule in force, 6 to 12 and 27.
 fn refusal_under(q: Request, rule: Rule) -> u8
     ensures { λ r. ⌜ r ≡ firstRow (rowsUnder q rule) ⌝ }
 {
@@ -148,6 +166,9 @@ fn refusal_under(q: Request, rule: Rule) -> u8
     }
     if denies_month_end(q, rule) {
         return refusal::MONTHEND;
+    }
+    if is_short_end(q, rule) {
+        return refusal::SHORTEND;
     }
     0
 }

@@ -69,10 +69,14 @@ pub no-flag-two : flagOf 2 ≡ refused 17
 unfolding flagOf atPlace
 no-flag-two = refl
 
--- refusal 2 is BOOK and 19 NOTPLAIN; there is no refusal 18, and a value has no name
+-- refusals 2, 19 and 27 are BOOK, NOTPLAIN and SHORTEND; there is no refusal 18, and a value has no name
 pub book-named : nameOf (negsuc 1) ≡ 66 ∷ 79 ∷ 79 ∷ 75 ∷ []
 unfolding nameOf nameOfNumber ofNumber pick refusals letters
 book-named = refl
+
+pub shortend-named : nameOf (negsuc 26) ≡ 83 ∷ 72 ∷ 79 ∷ 82 ∷ 84 ∷ 69 ∷ 78 ∷ 68 ∷ []
+unfolding nameOf nameOfNumber ofNumber pick refusals letters
+shortend-named = refl
 
 pub no-eighteenth : nameOf (negsuc 17) ≡ []
 unfolding nameOf nameOfNumber ofNumber pick refusals

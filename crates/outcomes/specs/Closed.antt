@@ -8,9 +8,9 @@ use mathlib.Core.List.{List, [], _∷_}
 use lib.IntN.{pos}
 use Rattle.refusal.specs.Answer.{number, need, then}
 use Rattle.period.specs.declared.Unit.{Unit as TimeUnit}
-use Rattle.period.specs.declared.Unit.the-variants.{Days, Weeks}
+use Rattle.period.specs.declared.Unit.the-variants.{Days, Weeks, Months}
 use Rattle.date.specs.Civil.{leap, rowOf, monthLength, gone, sumTo, dayNumber, guess, yearsGone, monthIn, dayIn, placeOf, fieldsAt, weekdayOf}
-use Rattle.date.specs.Date.{inBook, withinSpan, makeOf, monthIndex, inMonth, step, shiftDays, shifted}
+use Rattle.date.specs.Date.{inBook, withinSpan, makeOf, monthIndex, inMonth, step, shiftDays, shiftMonths, shifted}
 use Rattle.calendar.specs.declared.Convention.{Convention}
 use Rattle.calendar.specs.declared.Convention.the-variants.{Unadjusted, Following}
 use Rattle.calendar.specs.Open.{weeklyClosed, member, isOpen, ascending, closedOk, calendarOk}
@@ -20,13 +20,13 @@ use Rattle.steps.specs.declared.Rule.{Rule}
 use Rattle.steps.specs.declared.Rule.the-variants.{Backward, Forward}
 use Rattle.steps.specs.declared.Request.{Request}
 use Rattle.steps.specs.Rules.{ruleNumber, oneOf, isZero, isBackward, onTwentieths, isCredit, isOldCDS, ruleUnder, isNone, ruleInForce, paceBy, paceOf}
-use Rattle.steps.specs.Table.{numberOr, firstRow, isGiven, anchorOk, datesOk, byRange, byImm, outOfRange, notImm, wrongRule, firstOutside, lastOutside, monthendAllowed, anchorRows, firstRows, lastRows, rowsUnder, inputRows}
+use Rattle.steps.specs.Table.{numberOr, firstRow, isGiven, anchorOk, datesOk, byRange, byImm, outOfRange, notImm, wrongRule, firstOutside, lastOutside, monthendAllowed, inDays, shortEnd, anchorRows, firstRows, lastRows, rowsUnder, inputRows}
 use Rattle.steps.specs.Candidates.{lastDay, seedOf, candidateBy, candidate, isPast, unlessSame, unlessPast, turnOf}
 use Rattle.steps.specs.Generate.{hasRoom, put, putUnless, putNew, onTurn, lastTry, walk, candidates, anchorOr, putAnchor, putPenultimate, begun, ended, backwardEnd, backwardFrom, backward, openingBy, opening, tenorOn, putSeed, putFirst, putTwentieth, second, closingDay, putClosing, closing, opened, shut, forwardEnd, forwardFrom, forward, generateBy, generate}
 use Rattle.steps.specs.Finish.{moved, each, between, onFirst, onLast, onMiddle, wednesdaysBy, wednesdays, unless, firstMove, lastMove, monthEndMove, middleMove, seedAsked, seedAtEnd, adjustments, meetAtEnd, mergeEndIf, mergeEnd, meetAtFront, mergeFrontIf, mergeFront, finish}
 use Rattle.steps.specs.Build.{stepsOf, admitted, buildOf}
 
--- 2025-03-02 to 2025-03-05, 1 day or week, with a first date or without
+-- 2025-03-02 to 2025-03-05, 1 day, week or month, with a first date or without
 asked : Rule → TimeUnit → Convention → Convention → Bool → ℕ → Request
 asked rule unit convention terminal monthend first =
     record {
@@ -50,12 +50,12 @@ searches-closed : _≡_ {A = List ℕ}
     (numberIn (asked Backward Days Unadjusted Unadjusted false 0)
     ∷ numberIn (asked Backward Days Following Unadjusted false 0)
     ∷ numberIn (asked Backward Days Unadjusted Following false 0)
-    ∷ numberIn (asked Backward Days Unadjusted Unadjusted true 0)
+    ∷ numberIn (asked Backward Months Unadjusted Unadjusted true 0)
     ∷ numberIn (asked Backward Days Unadjusted Unadjusted false 739314)
     ∷ numberIn (asked Forward Days Unadjusted Unadjusted false 0)
     ∷ numberIn (asked Forward Days Unadjusted Unadjusted false 739314)
     ∷ numberIn (asked Forward Weeks Unadjusted Unadjusted false 739314)
     ∷ [])
     (0 ∷ 13 ∷ 13 ∷ 13 ∷ 0 ∷ 0 ∷ 13 ∷ 0 ∷ [])
-unfolding asked numberIn number need then leap rowOf monthLength gone sumTo dayNumber guess yearsGone monthIn dayIn placeOf fieldsAt weekdayOf inBook withinSpan makeOf monthIndex inMonth step shiftDays shifted weeklyClosed member isOpen ascending closedOk calendarOk inSpan takenOr firstOpen found sameMonth byConvention adjusted atMonthEnd towards openSteps addWeeks byUnit advanced longest tenorOk ruleNumber oneOf isZero isBackward onTwentieths isCredit isOldCDS ruleUnder isNone ruleInForce paceBy paceOf numberOr firstRow isGiven anchorOk datesOk byRange byImm outOfRange notImm wrongRule firstOutside lastOutside monthendAllowed anchorRows firstRows lastRows rowsUnder inputRows lastDay seedOf candidateBy candidate isPast unlessSame unlessPast turnOf hasRoom put putUnless putNew onTurn lastTry walk candidates anchorOr putAnchor putPenultimate begun ended backwardEnd backwardFrom backward openingBy opening tenorOn putSeed putFirst putTwentieth second closingDay putClosing closing opened shut forwardEnd forwardFrom forward generateBy generate moved each between onFirst onLast onMiddle wednesdaysBy wednesdays unless firstMove lastMove monthEndMove middleMove seedAsked seedAtEnd adjustments meetAtEnd mergeEndIf mergeEnd meetAtFront mergeFrontIf mergeFront finish stepsOf admitted buildOf
+unfolding asked numberIn number need then leap rowOf monthLength gone sumTo dayNumber guess yearsGone monthIn dayIn placeOf fieldsAt weekdayOf inBook withinSpan makeOf monthIndex inMonth step shiftDays shiftMonths shifted weeklyClosed member isOpen ascending closedOk calendarOk inSpan takenOr firstOpen found sameMonth byConvention adjusted atMonthEnd towards openSteps addWeeks byUnit advanced longest tenorOk ruleNumber oneOf isZero isBackward onTwentieths isCredit isOldCDS ruleUnder isNone ruleInForce paceBy paceOf numberOr firstRow isGiven anchorOk datesOk byRange byImm outOfRange notImm wrongRule firstOutside lastOutside monthendAllowed inDays shortEnd anchorRows firstRows lastRows rowsUnder inputRows lastDay seedOf candidateBy candidate isPast unlessSame unlessPast turnOf hasRoom put putUnless putNew onTurn lastTry walk candidates anchorOr putAnchor putPenultimate begun ended backwardEnd backwardFrom backward openingBy opening tenorOn putSeed putFirst putTwentieth second closingDay putClosing closing opened shut forwardEnd forwardFrom forward generateBy generate moved each between onFirst onLast onMiddle wednesdaysBy wednesdays unless firstMove lastMove monthEndMove middleMove seedAsked seedAtEnd adjustments meetAtEnd mergeEndIf mergeEnd meetAtFront mergeFrontIf mergeFront finish stepsOf admitted buildOf
 searches-closed = refl

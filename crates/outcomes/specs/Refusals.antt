@@ -3,12 +3,12 @@
 -- list and lent length.
 -- Assumes nothing.
 use Prim.Native.Nat.{ℕ, _+_, _≤_}
-use mathlib.Core.Path.{_≡_, sym, _∙_}
-use mathlib.Core.Logic.{_⊎_, inl, inr}
+use mathlib.Core.Path.{_≡_, sym, ap, _∙_}
+use mathlib.Core.Logic.{_⊎_, inl, inr, ⊎-elim}
 use mathlib.Core.Bool.{Bool, true, false, false≢true}
 use mathlib.Core.List.{List}
 use native.Mathlib.Omega.{arith}
-use Rattle.refusal.specs.Answer.{refused, BOOK, CLOSED, ROOM}
+use Rattle.refusal.specs.Answer.{refused, BOOK, CLOSED, ROOM, COLLAPSED}
 use Rattle.calendar.specs.declared.Convention.the-variants.{Unadjusted}
 use Rattle.steps.specs.declared.Request.{Request}
 use Rattle.steps.specs.Table.{inputRows}
@@ -19,7 +19,7 @@ use Rattle.outcomes.specs.Late.{Late}
 use Rattle.outcomes.specs.Searches.{Searches, for-convention, for-terminal, for-month-end, for-first-date, StepsNoOpenDays, no-first, backward, not-days}
 use Rattle.outcomes.specs.Bound.{Enters, candidatesIn}
 use Rattle.outcomes.specs.Bound as bound
-use Rattle.outcomes.specs.Rows.{Reason, early, late, reason, late-number, late-closed}
+use Rattle.outcomes.specs.Rows.{ofChecks, Reason, early, late, reason, late-number, late-closed}
 use Rattle.outcomes.specs.NoLimit as room
 
 module _ (q : Request) (closed : List ℕ) where
@@ -29,26 +29,26 @@ module _ (q : Request) (closed : List ℕ) where
     first-row-or-late n h = by (reason q closed dates flags n h)
       where
         by : Reason q closed dates flags n → FirstHolds (inputRows q closed dates flags) n ⊎ (NoneHolds (inputRows q closed dates flags) × Late (Searches q) n)
-        by (early e a b) = inl (refused-exactly (inputRows q closed dates flags) (input-numbered q closed dates flags) n (λ z. omega arith) .0 e)
+        by (early e a) = inl (refused-exactly (inputRows q closed dates flags) (input-numbered q closed dates flags) n (λ z. false≢true (ap ofChecks (sym z) ∙ a)) .0 e)
         by (late e l) = inr (accepted-exactly (inputRows q closed dates flags) (input-numbered q closed dates flags) .0 e, l)
 
-    -- so with a number of 01's rows 1 to 15, and never with 0
-    pub one-to-fifteen : (n : ℕ) → buildOf q closed dates flags ≡ refused n → (1 ≤ n) × (n ≤ 15)
-    one-to-fifteen n h = by (reason q closed dates flags n h)
+    -- so with a number of the checks (1 to 12, and 27), or 13, 14 or 15, and never with 0
+    pub its-numbers : (n : ℕ) → buildOf q closed dates flags ≡ refused n → (ofChecks n ≡ true) ⊎ ((CLOSED ≤ n) × (n ≤ COLLAPSED))
+    its-numbers n h = by (reason q closed dates flags n h)
       where
-        by : Reason q closed dates flags n → (1 ≤ n) × (n ≤ 15)
-        by (early e a b) = (a, omega arith)
-        by (late e l) = (omega (arith, late-number l .0), late-number l .1)
+        by : Reason q closed dates flags n → (ofChecks n ≡ true) ⊎ ((CLOSED ≤ n) × (n ≤ COLLAPSED))
+        by (early e a) = inl a
+        by (late e l) = inr (late-number l)
 
     pub never-zero : buildOf q closed dates flags ≡ refused 0 → ⊥
-    never-zero h = omega (arith, one-to-fifteen 0 h .0)
+    never-zero h = ⊎-elim (λ (a : ofChecks 0 ≡ true). false≢true a) (λ (l : (CLOSED ≤ 0) × (0 ≤ COLLAPSED)). omega (arith, l .0)) (its-numbers 0 h)
 
     -- ---- 2: a request that passes the checks is never refused 2
     pub never-outside : NoneHolds (inputRows q closed dates flags) → buildOf q closed dates flags ≡ refused BOOK → ⊥
     never-outside a h = by (reason q closed dates flags BOOK h)
       where
         by : Reason q closed dates flags BOOK → ⊥
-        by (early e _ _) = omega (arith, accepted-exactly (inputRows q closed dates flags) (input-numbered q closed dates flags) .1 a)
+        by (early e _) = omega (arith, accepted-exactly (inputRows q closed dates flags) (input-numbered q closed dates flags) .1 a)
         by (late e l) = omega (arith, late-number l .0)
 
     -- ---- 3: refused 13 only where the calendar is searched; so never under Unadjusted, end of month off, unless the flag of a first date steps open days
@@ -56,7 +56,7 @@ module _ (q : Request) (closed : List ℕ) where
     closed-by-search h = by (reason q closed dates flags CLOSED h)
       where
         by : Reason q closed dates flags CLOSED → Searches q
-        by (early e a b) = let bad : ⊥ = omega arith in absurd bad
+        by (early e a) = absurd (false≢true a)
         by (late e l) = late-closed l
 
     pub never-closed : q .convention ≡ Unadjusted → q .terminal ≡ Unadjusted → q .monthend ≡ false → StepsNoOpenDays q → buildOf q closed dates flags ≡ refused CLOSED → ⊥

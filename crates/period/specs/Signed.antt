@@ -16,6 +16,9 @@ abbrev pub isNegative : ℤ → Bool
 isNegative (pos n) = false
 isNegative (negsuc n) = true
 
+abbrev pub isPositive : ℤ → Bool
+isPositive z = ltZ (pos 0) z
+
 pub same32 : (z : ℤ) → SFits w32 z → toZ w32 (ofZ w32 z) ≡ z
 same32 z s = toZ-ofZ {w = w32} {z = z} s
 

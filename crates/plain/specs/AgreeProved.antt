@@ -21,8 +21,8 @@ use Rattle.date.specs.Date.{inBook, withinSpan, inMonth, monthIndex, step, shif
 use Rattle.steps.specs.declared.Rule.{Rule}
 use Rattle.steps.specs.declared.Rule.the-variants.{Backward, Forward}
 use Rattle.steps.specs.declared.Request.{Request}
-use Rattle.steps.specs.Rules.{ruleNumber, oneOf, ruleUnder, isNone, ruleInForce}
-use Rattle.steps.specs.Table.{firstRow, datesOk, byRange, byImm, outOfRange, notImm, wrongRule, firstOutside, lastOutside, monthendAllowed, anchorRows, firstRows, lastRows, rowsUnder, inputRows}
+use Rattle.steps.specs.Rules.{ruleNumber, oneOf, isZero, ruleUnder, isNone, ruleInForce}
+use Rattle.steps.specs.Table.{firstRow, datesOk, byRange, byImm, outOfRange, notImm, wrongRule, firstOutside, lastOutside, monthendAllowed, shortEnd, anchorRows, firstRows, lastRows, rowsUnder, inputRows}
 use Rattle.steps.specs.Generate.{generate}
 use Rattle.steps.specs.Build.{Schedule, admitted, buildOf}
 use Rattle.outcomes.specs.Span.{le-or-lt}
@@ -154,7 +154,7 @@ module _ (q : Request) (k : ℕ) (w : Whole q k) where
   rule-of rule = rw (ne-eqb (tenorLength q) 0 (λ h. omega (arith, some-length))) refl
 
   same-rows : (closed : List ℕ) (dates flags : ℕ) → inputRows forth closed dates flags ≡ inputRows back closed dates flags
-  unfolding inputRows rowsUnder firstRows lastRows anchorRows outOfRange notImm wrongRule byRange byImm oneOf ruleNumber datesOk firstOutside lastOutside monthendAllowed
+  unfolding inputRows rowsUnder firstRows lastRows anchorRows outOfRange notImm wrongRule byRange byImm oneOf ruleNumber datesOk firstOutside lastOutside monthendAllowed shortEnd isZero
   same-rows closed dates flags = rw (rule-of Forward, rule-of Backward) refl
 
   module _ (closed : List ℕ) (dates flags : ℕ) (c : Passes q closed dates flags) where

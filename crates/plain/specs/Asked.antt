@@ -2,8 +2,7 @@
 -- Assumes nothing.
 use mathlib.Core.Bool.{Bool, true, false, not, _&&_}
 use lib.Dec.{eqb, ltb}
-use lib.IntN.{ℤ, pos}
-use lib.Signed.{ltZ}
+use Rattle.period.specs.Signed.{isPositive}
 use Rattle.calendar.specs.declared.Convention.{Convention}
 use Rattle.calendar.specs.declared.Convention.the-variants.{Unadjusted, Following, ModifiedFollowing, Preceding, ModifiedPreceding}
 use Rattle.steps.specs.declared.Request.{Request}
@@ -14,9 +13,6 @@ isUnadjusted Following = false
 isUnadjusted ModifiedFollowing = false
 isUnadjusted Preceding = false
 isUnadjusted ModifiedPreceding = false
-
-abbrev pub isPositive : ℤ → Bool
-isPositive z = ltZ (pos 0) z
 
 -- ---- no anchors, and effective before termination
 abbrev pub isUnanchored : Request → Bool

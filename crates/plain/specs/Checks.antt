@@ -13,7 +13,8 @@ use Rattle.period.specs.Signed.{isNegative}
 use Rattle.date.specs.Date.{inBook}
 use Rattle.steps.specs.declared.Rule.{Rule}
 use Rattle.steps.specs.declared.Request.{Request}
-use Rattle.steps.specs.Table.{Row, row, numberOr, firstRow, isGiven, anchorOk, datesOk, outOfRange, notImm, wrongRule, anchorRows, firstRows, lastRows, rowsUnder, inputRows}
+use Rattle.steps.specs.Rules.{ruleInForce}
+use Rattle.steps.specs.Table.{Row, row, numberOr, firstRow, isGiven, anchorOk, datesOk, outOfRange, notImm, wrongRule, shortEnd, anchorRows, firstRows, lastRows, rowsUnder, inputRows}
 use Rattle.steps.specs.TableLaws as table
 use Rattle.plain.specs.Demand.{Plain, Passes, ChecksAre}
 
@@ -65,6 +66,10 @@ module _ (q : Request) (closed : List ℕ) (dates flags : ℕ) (p : Plain q) whe
   unfolding wrongRule isGiven
   rule-row rule anchor e = rw e
 
+  short-row : shortEnd q (ruleInForce q) ≡ false
+  unfolding shortEnd
+  short-row = rw (p .no-month-end)
+
   passes : Passes q closed dates flags → firstRow (inputRows q closed dates flags) ≡ 0
   unfolding inputRows rowsUnder firstRows lastRows anchorRows
   passes c =
@@ -79,7 +84,8 @@ module _ (q : Request) (closed : List ℕ) (dates flags : ℕ) (p : Plain q) whe
       (next _ _ _ (range-row _ (q .penultimate .day) _ (p .no-penultimate))
       (next _ _ _ (imm-row _ (q .penultimate .day) (p .no-penultimate))
       (next _ _ _ (rule-row _ (q .penultimate .day) (p .no-penultimate))
-      (next _ _ _ (rw (p .no-month-end)) no-rows)))))))))))
+      (next _ _ _ (rw (p .no-month-end))
+      (next _ _ _ short-row no-rows))))))))))))
 
 pub checks-are : ChecksAre
 checks-are q closed dates flags p = (passed q closed dates flags, passes q closed dates flags p)

@@ -32,3 +32,4 @@ pub mod AgreeExample
 pub mod Example
 pub mod Sums
 pub mod Points
+pub mod ShortEnds

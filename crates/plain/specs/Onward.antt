@@ -23,7 +23,7 @@ use Rattle.steps.specs.declared.Request.{Request}
 use Rattle.steps.specs.declared.Pace.{Pace}
 use Rattle.steps.specs.declared.Seed.{Seed}
 use Rattle.steps.specs.Rules.{ruleNumber, oneOf, ruleUnder, isNone, ruleInForce, isZero, isBackward, isCredit, isOldCDS, onTwentieths, paceOf}
-use Rattle.steps.specs.Table.{firstRow, isGiven, datesOk, byRange, byImm, outOfRange, notImm, wrongRule, firstOutside, lastOutside, monthendAllowed, anchorRows, firstRows, lastRows, rowsUnder, inputRows}
+use Rattle.steps.specs.Table.{firstRow, isGiven, datesOk, byRange, byImm, outOfRange, notImm, wrongRule, firstOutside, lastOutside, monthendAllowed, shortEnd, anchorRows, firstRows, lastRows, rowsUnder, inputRows}
 use Rattle.steps.specs.Candidates.{seedOf, candidate, turnOf}
 use Rattle.steps.specs.Generate.{Lists, nothing, onto, newest, hasRoom, put, putUnless, putNew, lastTry, walk, candidates, anchorOr, putAnchor, openingBy, opening, putTwentieth, second, opened, closingDay, putClosing, closing, shut, madeForth, forwardEnd, forwardFrom, forward, generateBy, generate}
 use Rattle.steps.specs.Finish.{moved, wednesdaysBy, wednesdays, unless, firstMove, lastMove, middleMove, seedAtEnd, adjustments, finish}
@@ -139,7 +139,7 @@ module _ (q : Request) (p : PlainForward q) where
   }
 
   pub rows-on : (closed : List ℕ) (dates flags : ℕ) → inputRows q closed dates flags ≡ inputRows (under Backward q) closed dates flags
-  unfolding inputRows rowsUnder firstRows lastRows anchorRows outOfRange notImm wrongRule byRange byImm oneOf ruleNumber datesOk firstOutside lastOutside monthendAllowed
+  unfolding inputRows rowsUnder firstRows lastRows anchorRows outOfRange notImm wrongRule byRange byImm oneOf ruleNumber datesOk firstOutside lastOutside monthendAllowed shortEnd isZero
   rows-on closed dates flags = rw (rule-on, rule-is (under Backward q) plain-back) refl
 
   pub checks-on : (closed : List ℕ) (dates flags : ℕ) → (firstRow (inputRows q closed dates flags) ≡ 0) ↔ Passes q closed dates flags

@@ -12,7 +12,7 @@ use Rattle.calendar.specs.Open.{weeklyClosed, member, isOpen, ascending, closed
 use Rattle.calendar.specs.Adjust.{inSpan, takenOr, firstOpen, found, sameMonth, unlessLeft, modified, byConvention, adjusted, lastOpen, atMonthEnd, towards, openSteps, endAsked, landed, addMonths, addWeeks, byUnit, advanced}
 use Rattle.calendar.specs.Calendar.{longest, tenorOk}
 use Rattle.steps.specs.Rules.{ruleNumber, oneOf, isZero, isBackward, onTwentieths, inImmMonths, isCredit, isOldCDS, ruleUnder, isNone, ruleInForce, tenorUnder, tenorInForce, paceBy, paceOf}
-use Rattle.steps.specs.Table.{numberOr, firstRow, isGiven, anchorOk, datesOk, byRange, byImm, outOfRange, notImm, wrongRule, firstOutside, lastOutside, monthendAllowed, anchorRows, firstRows, lastRows, rowsUnder, inputRows}
+use Rattle.steps.specs.Table.{numberOr, firstRow, isGiven, anchorOk, datesOk, byRange, byImm, outOfRange, notImm, wrongRule, firstOutside, lastOutside, monthendAllowed, inDays, shortEnd, anchorRows, firstRows, lastRows, rowsUnder, inputRows}
 use Rattle.steps.specs.Twentieths.{twentiethOf, movedIf, skipOf, toImmMonth, nextTwentieth, previousTwentieth}
 use Rattle.steps.specs.Candidates.{lastDay, seedOf, candidateBy, candidate, isPast, unlessSame, unlessPast, turnOf}
 use Rattle.steps.specs.Generate.{hasRoom, put, putUnless, putNew, onTurn, lastTry, walk, candidates, anchorOr, putAnchor, zeroDates, putPenultimate, begun, ended, backwardEnd, backwardFrom, backward, putEarlier, creditOpening, openingBy, opening, tenorOn, putSeed, putFirst, farEnough, isNear, comingTwentieth, putComing, putTwentieth, second, closingDay, putClosing, closing, opened, shut, forwardEnd, forwardFrom, forward, generateBy, generate}
@@ -96,6 +96,11 @@ points : _≡_ {A = List (Answer Schedule)}
     ∷ builds [] (asked Backward Following Following true (on 4 30) (on 6 30) 1 Months 0 0 weekends)
     -- two month-end tests: candidates ask the null calendar, middle dates the given one
     ∷ builds [] (asked Backward Following Following true (on 1 30) (on 5 30) 1 Months 0 0 weekends)
+    -- end of month with weeks, under Zero: asked for, and forced by length 0
+    ∷ builds [] (asked Zero Unadjusted Unadjusted true (on 1 31) (on 3 31) 1 Weeks 0 0 0)
+    ∷ builds [] (asked Backward Unadjusted Unadjusted true (on 1 31) (on 3 31) 0 Weeks 0 0 0)
+    -- month ends repeat where an anchor shares a month with a candidate
+    ∷ builds [] (asked Backward Unadjusted Unadjusted true (on 1 10) (on 6 30) 1 Months (on 2 10) (on 5 31) 0)
     -- ThirdWednesdayInclusive: short tenors repeat a date or collapse
     ∷ builds [] (asked ThirdWednesdayInclusive Unadjusted Unadjusted false (on 1 1) (on 1 16) 1 Weeks 0 0 0)
     ∷ builds [] (asked ThirdWednesdayInclusive Unadjusted Unadjusted false (on 1 1) (on 1 16) 2 Weeks 0 0 0)
@@ -125,6 +130,9 @@ points : _≡_ {A = List (Answer Schedule)}
     ∷ given (record { dates = on 4 30 ∷ on 5 31 ∷ on 6 30 ∷ []; flags = 1 ∷ 1 ∷ []; tries = 3 })
     ∷ given (record { dates = on 4 30 ∷ on 5 30 ∷ on 6 30 ∷ []; flags = 1 ∷ 1 ∷ []; tries = 3 })
     ∷ given (record { dates = on 1 30 ∷ on 2 28 ∷ on 3 31 ∷ on 4 30 ∷ on 5 30 ∷ []; flags = 1 ∷ 1 ∷ 1 ∷ 1 ∷ []; tries = 5 })
+    ∷ given (record { dates = on 1 31 ∷ on 3 31 ∷ []; flags = 1 ∷ []; tries = 0 })
+    ∷ given (record { dates = on 1 31 ∷ on 3 31 ∷ []; flags = 1 ∷ []; tries = 0 })
+    ∷ given (record { dates = on 1 10 ∷ on 2 28 ∷ on 2 28 ∷ on 3 31 ∷ on 4 30 ∷ on 5 31 ∷ on 6 30 ∷ []; flags = 0 ∷ 0 ∷ 1 ∷ 1 ∷ 1 ∷ 1 ∷ []; tries = 4 })
     ∷ given (record { dates = on 1 15 ∷ on 1 15 ∷ []; flags = 1 ∷ []; tries = 3 })
     ∷ refused 15
     ∷ given (record { dates = on 1 15 ∷ on 1 15 ∷ on 1 15 ∷ []; flags = 1 ∷ 1 ∷ []; tries = 5 })
@@ -132,10 +140,10 @@ points : _≡_ {A = List (Answer Schedule)}
     ∷ given (record { dates = on 2 3 ∷ on 3 2 ∷ []; flags = 1 ∷ []; tries = 2 })
     ∷ given (record { dates = on 3 3 ∷ []; flags = []; tries = 1 })
     ∷ [])
-unfolding ruleNumber oneOf isZero isBackward daysFrom asked builds need then leap rowOf monthLength gone sumTo dayNumber guess yearsGone monthIn dayIn placeOf fieldsAt weekdayOf daysUntil inBook withinSpan makeOf lastOfMonth monthIndex inMonth step shiftDays shiftMonths shifted nthWeekdayOf weeklyClosed member isOpen ascending closedOk calendarOk inSpan takenOr firstOpen found sameMonth unlessLeft modified byConvention adjusted lastOpen atMonthEnd towards openSteps endAsked landed addMonths addWeeks byUnit advanced longest tenorOk mainMonth inCycle isImm onTwentieths inImmMonths isCredit isOldCDS ruleUnder isNone ruleInForce tenorUnder tenorInForce paceBy paceOf numberOr firstRow isGiven anchorOk datesOk byRange byImm outOfRange notImm wrongRule firstOutside lastOutside monthendAllowed anchorRows firstRows lastRows rowsUnder inputRows twentiethOf movedIf skipOf toImmMonth nextTwentieth previousTwentieth lastDay seedOf candidateBy candidate isPast unlessSame unlessPast turnOf hasRoom put putUnless putNew onTurn lastTry walk candidates anchorOr putAnchor zeroDates putPenultimate begun ended backwardEnd backwardFrom backward putEarlier creditOpening openingBy opening tenorOn putSeed putFirst farEnough isNear comingTwentieth putComing putTwentieth second closingDay putClosing closing opened shut forwardEnd forwardFrom forward generateBy generate thirdWednesday moved each between onFirst onLast onMiddle wednesdaysBy wednesdays unless firstMove lastMove monthEndMove middleMove seedAsked seedAtEnd adjustments meetAtEnd mergeEndIf mergeEnd meetAtFront mergeFrontIf mergeFront finish stepsOf admitted buildOf
+unfolding ruleNumber oneOf isZero isBackward daysFrom asked builds need then leap rowOf monthLength gone sumTo dayNumber guess yearsGone monthIn dayIn placeOf fieldsAt weekdayOf daysUntil inBook withinSpan makeOf lastOfMonth monthIndex inMonth step shiftDays shiftMonths shifted nthWeekdayOf weeklyClosed member isOpen ascending closedOk calendarOk inSpan takenOr firstOpen found sameMonth unlessLeft modified byConvention adjusted lastOpen atMonthEnd towards openSteps endAsked landed addMonths addWeeks byUnit advanced longest tenorOk mainMonth inCycle isImm onTwentieths inImmMonths isCredit isOldCDS ruleUnder isNone ruleInForce tenorUnder tenorInForce paceBy paceOf numberOr firstRow isGiven anchorOk datesOk byRange byImm outOfRange notImm wrongRule firstOutside lastOutside monthendAllowed inDays shortEnd anchorRows firstRows lastRows rowsUnder inputRows twentiethOf movedIf skipOf toImmMonth nextTwentieth previousTwentieth lastDay seedOf candidateBy candidate isPast unlessSame unlessPast turnOf hasRoom put putUnless putNew onTurn lastTry walk candidates anchorOr putAnchor zeroDates putPenultimate begun ended backwardEnd backwardFrom backward putEarlier creditOpening openingBy opening tenorOn putSeed putFirst farEnough isNear comingTwentieth putComing putTwentieth second closingDay putClosing closing opened shut forwardEnd forwardFrom forward generateBy generate thirdWednesday moved each between onFirst onLast onMiddle wednesdaysBy wednesdays unless firstMove lastMove monthEndMove middleMove seedAsked seedAtEnd adjustments meetAtEnd mergeEndIf mergeEnd meetAtFront mergeFrontIf mergeFront finish stepsOf admitted buildOf
 points = refl
 
 -- length 0 forces Zero, and the tenor in force is 0 years
 in-force : answered (asked Backward Unadjusted Unadjusted false (on 1 15) (on 3 20) 0 Months 0 0 0) (builds [] (asked Backward Unadjusted Unadjusted false (on 1 15) (on 3 20) 0 Months 0 0 0)) ≡ record { number = 0; count = 2; tries = 0; rule = Zero; tenor = record { length = pos 0; unit = Years } }
-unfolding ruleNumber oneOf isZero isBackward asked builds need then leap rowOf monthLength gone sumTo dayNumber guess yearsGone monthIn dayIn placeOf fieldsAt weekdayOf daysUntil inBook withinSpan makeOf lastOfMonth monthIndex inMonth step shiftDays shiftMonths shifted nthWeekdayOf weeklyClosed member isOpen ascending closedOk calendarOk inSpan takenOr firstOpen found sameMonth unlessLeft modified byConvention adjusted lastOpen atMonthEnd towards openSteps endAsked landed addMonths addWeeks byUnit advanced longest tenorOk mainMonth inCycle isImm onTwentieths inImmMonths isCredit isOldCDS ruleUnder isNone ruleInForce tenorUnder tenorInForce paceBy paceOf numberOr firstRow isGiven anchorOk datesOk byRange byImm outOfRange notImm wrongRule firstOutside lastOutside monthendAllowed anchorRows firstRows lastRows rowsUnder inputRows twentiethOf movedIf skipOf toImmMonth nextTwentieth previousTwentieth lastDay seedOf candidateBy candidate isPast unlessSame unlessPast turnOf hasRoom put putUnless putNew onTurn lastTry walk candidates anchorOr putAnchor zeroDates putPenultimate begun ended backwardEnd backwardFrom backward putEarlier creditOpening openingBy opening tenorOn putSeed putFirst farEnough isNear comingTwentieth putComing putTwentieth second closingDay putClosing closing opened shut forwardEnd forwardFrom forward generateBy generate thirdWednesday moved each between onFirst onLast onMiddle wednesdaysBy wednesdays unless firstMove lastMove monthEndMove middleMove seedAsked seedAtEnd adjustments meetAtEnd mergeEndIf mergeEnd meetAtFront mergeFrontIf mergeFront finish stepsOf admitted buildOf answered
+unfolding ruleNumber oneOf isZero isBackward asked builds need then leap rowOf monthLength gone sumTo dayNumber guess yearsGone monthIn dayIn placeOf fieldsAt weekdayOf daysUntil inBook withinSpan makeOf lastOfMonth monthIndex inMonth step shiftDays shiftMonths shifted nthWeekdayOf weeklyClosed member isOpen ascending closedOk calendarOk inSpan takenOr firstOpen found sameMonth unlessLeft modified byConvention adjusted lastOpen atMonthEnd towards openSteps endAsked landed addMonths addWeeks byUnit advanced longest tenorOk mainMonth inCycle isImm onTwentieths inImmMonths isCredit isOldCDS ruleUnder isNone ruleInForce tenorUnder tenorInForce paceBy paceOf numberOr firstRow isGiven anchorOk datesOk byRange byImm outOfRange notImm wrongRule firstOutside lastOutside monthendAllowed inDays shortEnd anchorRows firstRows lastRows rowsUnder inputRows twentiethOf movedIf skipOf toImmMonth nextTwentieth previousTwentieth lastDay seedOf candidateBy candidate isPast unlessSame unlessPast turnOf hasRoom put putUnless putNew onTurn lastTry walk candidates anchorOr putAnchor zeroDates putPenultimate begun ended backwardEnd backwardFrom backward putEarlier creditOpening openingBy opening tenorOn putSeed putFirst farEnough isNear comingTwentieth putComing putTwentieth second closingDay putClosing closing opened shut forwardEnd forwardFrom forward generateBy generate thirdWednesday moved each between onFirst onLast onMiddle wednesdaysBy wednesdays unless firstMove lastMove monthEndMove middleMove seedAsked seedAtEnd adjustments meetAtEnd mergeEndIf mergeEnd meetAtFront mergeFrontIf mergeFront finish stepsOf admitted buildOf answered
 in-force = refl

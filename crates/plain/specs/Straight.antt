@@ -9,7 +9,8 @@ use Rattle.calendar.specs.declared.Convention.{Convention}
 use Rattle.calendar.specs.declared.Convention.the-variants.{Unadjusted, Following, ModifiedFollowing, Preceding, ModifiedPreceding}
 use Rattle.steps.specs.declared.Rule.the-variants.{Backward, Forward}
 use Rattle.steps.specs.declared.Request.{Request}
-use Rattle.plain.specs.Asked.{isUnadjusted, isPositive, isStraight}
+use Rattle.period.specs.Signed.{isPositive}
+use Rattle.plain.specs.Asked.{isUnadjusted, isStraight}
 use Rattle.plain.specs.Demand.{Plain}
 use Rattle.plain.specs.Forward.{PlainForward}
 

@@ -19,7 +19,7 @@ use Rattle.calendar.specs.Calendar.{longest, tenorOk}
 use Rattle.imm.specs.declared.codes.Code.{Code}
 use Rattle.imm.specs.Imm.{mainMonth, inCycle, isImm, isImmIn, thirdOf, orElse, cycleFrom, stride, nextFrom, nextOf, nextIn, letters, upper, placeIn, monthOf, isDigit, isPair, isCode, codeMonth, codeDigit, codeOf, codeIn, firstYear, dateFrom, dateOf, dateIn}
 use Rattle.steps.specs.Rules.{ruleNumber, oneOf, isZero, isBackward, onTwentieths, inImmMonths, isCredit, isOldCDS, ruleUnder, isNone, ruleInForce, tenorUnder, tenorInForce, paceBy, paceOf}
-use Rattle.steps.specs.Table.{numberOr, firstRow, isGiven, anchorOk, datesOk, byRange, byImm, outOfRange, notImm, wrongRule, firstOutside, lastOutside, monthendAllowed, anchorRows, firstRows, lastRows, rowsUnder, inputRows}
+use Rattle.steps.specs.Table.{numberOr, firstRow, isGiven, anchorOk, datesOk, byRange, byImm, outOfRange, notImm, wrongRule, firstOutside, lastOutside, monthendAllowed, inDays, shortEnd, anchorRows, firstRows, lastRows, rowsUnder, inputRows}
 use Rattle.steps.specs.Twentieths.{twentiethOf, movedIf, skipOf, toImmMonth, nextTwentieth, previousTwentieth}
 use Rattle.steps.specs.Candidates.{lastDay, seedOf, candidateBy, candidate, isPast, unlessSame, unlessPast, turnOf}
 use Rattle.steps.specs.Generate.{hasRoom, put, putUnless, putNew, onTurn, lastTry, walk, candidates, anchorOr, putAnchor, zeroDates, putPenultimate, begun, ended, backwardEnd, backwardFrom, backward, putEarlier, creditOpening, openingBy, opening, tenorOn, putSeed, putFirst, farEnough, isNear, comingTwentieth, putComing, putTwentieth, second, closingDay, putClosing, closing, opened, shut, forwardEnd, forwardFrom, forward, generateBy, generate}
@@ -98,5 +98,5 @@ sums : _≡_ {A = List Sum}
     ∷ day (given (dayNumber 2035 3 21))
     ∷ code (given (record { letter = 90; digit = 53 }))
     ∷ [])
-unfolding ruleNumber oneOf isZero isBackward plain in-room quarterly need then leap rowOf monthLength gone sumTo dayNumber guess yearsGone monthIn dayIn placeOf fieldsAt weekdayOf daysUntil inBook withinSpan makeOf lastOfMonth monthIndex inMonth step shiftDays shiftMonths shifted nthWeekdayOf weeklyClosed member isOpen ascending closedOk calendarOk inSpan takenOr firstOpen found sameMonth unlessLeft modified byConvention adjusted lastOpen atMonthEnd towards openSteps endAsked landed addMonths addWeeks byUnit advanced longest tenorOk mainMonth inCycle isImm isImmIn thirdOf orElse cycleFrom stride nextFrom nextOf nextIn letters upper placeIn monthOf isDigit isPair isCode codeMonth codeDigit codeOf codeIn firstYear dateFrom dateOf dateIn onTwentieths inImmMonths isCredit isOldCDS ruleUnder isNone ruleInForce tenorUnder tenorInForce paceBy paceOf numberOr firstRow isGiven anchorOk datesOk byRange byImm outOfRange notImm wrongRule firstOutside lastOutside monthendAllowed anchorRows firstRows lastRows rowsUnder inputRows twentiethOf movedIf skipOf toImmMonth nextTwentieth previousTwentieth lastDay seedOf candidateBy candidate isPast unlessSame unlessPast turnOf hasRoom put putUnless putNew onTurn lastTry walk candidates anchorOr putAnchor zeroDates putPenultimate begun ended backwardEnd backwardFrom backward putEarlier creditOpening openingBy opening tenorOn putSeed putFirst farEnough isNear comingTwentieth putComing putTwentieth second closingDay putClosing closing opened shut forwardEnd forwardFrom forward generateBy generate thirdWednesday moved each between onFirst onLast onMiddle wednesdaysBy wednesdays unless firstMove lastMove monthEndMove middleMove seedAsked seedAtEnd adjustments meetAtEnd mergeEndIf mergeEnd meetAtFront mergeFrontIf mergeFront finish stepsOf admitted buildOf
+unfolding ruleNumber oneOf isZero isBackward plain in-room quarterly need then leap rowOf monthLength gone sumTo dayNumber guess yearsGone monthIn dayIn placeOf fieldsAt weekdayOf daysUntil inBook withinSpan makeOf lastOfMonth monthIndex inMonth step shiftDays shiftMonths shifted nthWeekdayOf weeklyClosed member isOpen ascending closedOk calendarOk inSpan takenOr firstOpen found sameMonth unlessLeft modified byConvention adjusted lastOpen atMonthEnd towards openSteps endAsked landed addMonths addWeeks byUnit advanced longest tenorOk mainMonth inCycle isImm isImmIn thirdOf orElse cycleFrom stride nextFrom nextOf nextIn letters upper placeIn monthOf isDigit isPair isCode codeMonth codeDigit codeOf codeIn firstYear dateFrom dateOf dateIn onTwentieths inImmMonths isCredit isOldCDS ruleUnder isNone ruleInForce tenorUnder tenorInForce paceBy paceOf numberOr firstRow isGiven anchorOk datesOk byRange byImm outOfRange notImm wrongRule firstOutside lastOutside monthendAllowed inDays shortEnd anchorRows firstRows lastRows rowsUnder inputRows twentiethOf movedIf skipOf toImmMonth nextTwentieth previousTwentieth lastDay seedOf candidateBy candidate isPast unlessSame unlessPast turnOf hasRoom put putUnless putNew onTurn lastTry walk candidates anchorOr putAnchor zeroDates putPenultimate begun ended backwardEnd backwardFrom backward putEarlier creditOpening openingBy opening tenorOn putSeed putFirst farEnough isNear comingTwentieth putComing putTwentieth second closingDay putClosing closing opened shut forwardEnd forwardFrom forward generateBy generate thirdWednesday moved each between onFirst onLast onMiddle wednesdaysBy wednesdays unless firstMove lastMove monthEndMove middleMove seedAsked seedAtEnd adjustments meetAtEnd mergeEndIf mergeEnd meetAtFront mergeFrontIf mergeFront finish stepsOf admitted buildOf
 sums = refl

@@ -62,6 +62,9 @@ REQUEST = 17
 abbrev pub NOTPLAIN : ℕ
 NOTPLAIN = 19
 
+abbrev pub SHORTEND : ℕ
+SHORTEND = 27
+
 -- ---- made so far
 
 -- document 01's number for an answer: 0 is no refusal

@@ -38,13 +38,15 @@ pub const CODE: u8 = 16;
 pub const REQUEST: u8 = 17;
 
 pub const NOTPLAIN: u8 = 19;
+
+pub const SHORTEND: u8 = 27;
 // ---- made so far
 
 // A refusal's number, how many letters its name has, and the name in ASCII with spaces behind it.
 pub struct Row(pub u8, pub usize, pub [u8; 16]);
 
 // ---- made by tools/refusals.py: rows
-pub const ROWS: [Row; 18] = [
+pub const ROWS: [Row; 19] = [
     Row(UNEVEN, 6, *b"UNEVEN          "),
     Row(BOOK, 4, *b"BOOK            "),
     Row(CALENDAR, 8, *b"CALENDAR        "),
@@ -63,6 +65,7 @@ pub const ROWS: [Row; 18] = [
     Row(CODE, 4, *b"CODE            "),
     Row(REQUEST, 7, *b"REQUEST         "),
     Row(NOTPLAIN, 8, *b"NOTPLAIN        "),
+    Row(SHORTEND, 8, *b"SHORTEND        "),
 ];
 // ---- made so far
 

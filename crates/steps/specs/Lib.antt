@@ -13,3 +13,4 @@ pub mod Parts
 pub mod Met
 pub mod FewerLaws
 pub mod Counts
+pub mod ShortEnd

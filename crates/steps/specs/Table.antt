@@ -1,12 +1,14 @@
--- Document 01, "Refusal numbers": the input checks of a build, 1 to 12, as the rows of the table in its order.
+-- Document 01, "Refusal numbers", with request L14: the input checks of a build, 1 to 12 and 27, as the rows of the table in its order.
 -- Assumes nothing.
 use Prim.Native.Nat.{ℕ}
 use mathlib.Core.Bool.{Bool, true, false, not, _&&_, _||_}
 use mathlib.Core.List.{List, [], _∷_, _++_}
 use lib.Dec.{eqb, leb, ltb}
 use lib.IntN.{natAbs}
-use Rattle.refusal.specs.Answer.{UNEVEN, BOOK, CALENDAR, NEGATIVE, TENOR, FIRST-DATE, FIRST-NOT-IMM, FIRST-WRONG-RULE, LAST-DATE, LAST-NOT-IMM, LAST-WRONG-RULE, MONTHEND}
-use Rattle.period.specs.Signed.{isNegative}
+use Rattle.refusal.specs.Answer.{UNEVEN, BOOK, CALENDAR, NEGATIVE, TENOR, FIRST-DATE, FIRST-NOT-IMM, FIRST-WRONG-RULE, LAST-DATE, LAST-NOT-IMM, LAST-WRONG-RULE, MONTHEND, SHORTEND}
+use Rattle.period.specs.declared.Unit.{Unit}
+use Rattle.period.specs.declared.Unit.the-variants.{Days, Weeks, Months, Years}
+use Rattle.period.specs.Signed.{isNegative, isPositive}
 use Rattle.date.specs.Date.{inBook}
 use Rattle.calendar.specs.Open.{calendarOk}
 use Rattle.calendar.specs.Calendar.{tenorOk}
@@ -14,7 +16,7 @@ use Rattle.imm.specs.Imm.{isImm}
 use Rattle.steps.specs.declared.Rule.{Rule}
 use Rattle.steps.specs.declared.Rule.the-variants.{Zero, Backward, Forward, ThirdWednesday}
 use Rattle.steps.specs.declared.Request.{Request}
-use Rattle.steps.specs.Rules.{oneOf, ruleInForce}
+use Rattle.steps.specs.Rules.{oneOf, isZero, ruleInForce}
 
 -- a row of the table: its number, and whether it holds
 pub record Row : Type 0 where
@@ -69,6 +71,16 @@ lastOutside q = leb (q .penultimate .day) (q .effective .day) || leb (q .termina
 unfoldable pub monthendAllowed : Rule → Bool
 monthendAllowed rule = oneOf rule (Zero ∷ Backward ∷ Forward ∷ [])
 
+-- a month end asked of a tenor that counts days
+unfoldable pub inDays : Unit → Bool
+inDays Days = true
+inDays Weeks = true
+inDays Months = false
+inDays Years = false
+
+unfoldable pub shortEnd : Request → Rule → Bool
+shortEnd q rule = q .monthend && ((isPositive (q .tenor .length) && inDays (q .tenor .unit)) && not (isZero rule))
+
 abbrev pub row : ℕ → Bool → Row
 row n b = record { number = n; holds = b }
 
@@ -91,6 +103,7 @@ rowsUnder q rule =
     firstRows q rule
     ++ (lastRows q rule
     ++ (row MONTHEND (q .monthend && not (monthendAllowed rule))
+    ∷ row SHORTEND (shortEnd q rule)
     ∷ []))
 
 -- ---- the table; 4 and 5 read the tenor given

@@ -1,5 +1,5 @@
 -- Document 01, "Refusal numbers": the answer of a table is the number of the first row that holds, and 0 exactly where none does, for
--- any list of rows; the rows of the input checks are 1 to 12, in order.
+-- any list of rows; the rows of the input checks are 1 to 12 and 27, in order.
 -- Assumes nothing.
 use Prim.Native.Nat.{ℕ, _%_, _<_}
 use mathlib.Core.Path.{_≡_, refl, sym, ap}
@@ -9,7 +9,7 @@ use native.Mathlib.Omega.{arith}
 use lib.Dec.{eqb}
 use lib.IntN.{natAbs}
 use borrow.Author.Tests.{eqb-true, not-false}
-use Rattle.refusal.specs.Answer.{UNEVEN, BOOK, CALENDAR, NEGATIVE, TENOR, FIRST-DATE, FIRST-NOT-IMM, FIRST-WRONG-RULE, LAST-DATE, LAST-NOT-IMM, LAST-WRONG-RULE, MONTHEND}
+use Rattle.refusal.specs.Answer.{UNEVEN, BOOK, CALENDAR, NEGATIVE, TENOR, FIRST-DATE, FIRST-NOT-IMM, FIRST-WRONG-RULE, LAST-DATE, LAST-NOT-IMM, LAST-WRONG-RULE, MONTHEND, SHORTEND}
 use Rattle.refusal.specs.Refusals.{pick}
 use Rattle.refusal.specs.Laws.{both}
 use Rattle.period.specs.Signed.{isNegative}
@@ -17,7 +17,7 @@ use Rattle.calendar.specs.Open.{closedOk, calendarOk}
 use Rattle.calendar.specs.Calendar.{tenorOk}
 use Rattle.steps.specs.declared.Request.{Request}
 use Rattle.steps.specs.Rules.{ruleInForce}
-use Rattle.steps.specs.Table.{Row, row, numberOr, firstRow, datesOk, outOfRange, notImm, wrongRule, firstOutside, lastOutside, monthendAllowed, anchorRows, firstRows, lastRows, rowsUnder, inputRows}
+use Rattle.steps.specs.Table.{Row, row, numberOr, firstRow, datesOk, outOfRange, notImm, wrongRule, firstOutside, lastOutside, monthendAllowed, shortEnd, anchorRows, firstRows, lastRows, rowsUnder, inputRows}
 use Rattle.steps.specs.Rows.{numbered, head-numbered, tail-numbered}
 
 -- ---- in any table
@@ -104,9 +104,9 @@ numbers [] = []
 numbers (r ∷ rows) = r .number ∷ numbers rows
 
 module _ (q : Request) (closed : List ℕ) (dates flags : ℕ) where
-  pub one-to-twelve : numbers (inputRows q closed dates flags) ≡ 1 ∷ 2 ∷ 3 ∷ 4 ∷ 5 ∷ 6 ∷ 7 ∷ 8 ∷ 9 ∷ 10 ∷ 11 ∷ 12 ∷ []
+  pub in-order : numbers (inputRows q closed dates flags) ≡ 1 ∷ 2 ∷ 3 ∷ 4 ∷ 5 ∷ 6 ∷ 7 ∷ 8 ∷ 9 ∷ 10 ∷ 11 ∷ 12 ∷ 27 ∷ []
   unfolding numbers inputRows rowsUnder firstRows lastRows anchorRows
-  one-to-twelve = refl
+  in-order = refl
 
   pub input-numbered : numbered (inputRows q closed dates flags) ≡ true
   unfolding numbered inputRows rowsUnder firstRows lastRows anchorRows
@@ -127,6 +127,7 @@ pub record Accepted (q : Request) (closed : List ℕ) (dates flags : ℕ) : Type
   pub last-imm : notImm (ruleInForce q) (q .penultimate .day) ≡ false
   pub last-allowed : wrongRule (ruleInForce q) (q .penultimate .day) ≡ false
   pub monthend-allowed : (q .monthend && not (monthendAllowed (ruleInForce q))) ≡ false
+  pub not-short : shortEnd q (ruleInForce q) ≡ false
 
 pub calendar-closed : (mask : ℕ) (closed : List ℕ) → calendarOk mask closed ≡ true → closedOk closed ≡ true
 unfolding calendarOk
@@ -150,4 +151,5 @@ accepted q closed dates flags e =
       last-imm = no LAST-NOT-IMM;
       last-allowed = no LAST-WRONG-RULE;
       monthend-allowed = no MONTHEND;
+      not-short = no SHORTEND;
     }
