@@ -1,7 +1,6 @@
-pub mod Signs
+pub mod Laws
 pub mod Dates
 pub mod Years
-pub mod OpenSteps
 pub mod OpenDays
 pub mod Cases
 pub mod Needed

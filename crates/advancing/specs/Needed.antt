@@ -7,7 +7,7 @@ use mathlib.Core.List.{List, []}
 use native.Mathlib.Omega.{arith}
 use lib.IntN.{ℤ, pos, negsuc, negℤ, natAbs, _+ℤ_}
 use Rattle.refusal.specs.Answer.{Answer, given, need, then, BOOK, TENOR}
-use Rattle.refusal.specs.Laws.{one-given, never-both}
+use Rattle.refusal.specs.Laws.Answers.{one-given, never-both}
 use Rattle.period.specs.declared.Unit.{Unit}
 use Rattle.period.specs.declared.Unit.the-variants.{Days, Months, Years}
 use Rattle.date.specs.Civil.{leap, rowOf, monthLength, gone, sumTo, dayNumber, guess, yearsGone, monthIn, dayIn, placeOf, fieldsAt, fieldsOf}

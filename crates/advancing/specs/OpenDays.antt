@@ -11,17 +11,17 @@ use lib.IntN.{ℤ, pos, negsuc, negℤ, natAbs, _+ℤ_}
 use lib.Signed.{leZ}
 use borrow.Author.Tests.{leb-true, le-leb}
 use Rattle.refusal.specs.Answer.{given, BOOK, CALENDAR, TENOR}
-use Rattle.refusal.specs.Laws.{need-given, holds, one-given}
-use Rattle.period.specs.Signed.{isNegative}
+use Rattle.refusal.specs.Laws.Answers.{need-given, holds, one-given}
+use Rattle.period.specs.Laws.Signed.{isNegative}
 use Rattle.period.specs.declared.Unit.the-variants.{Days}
 use Rattle.date.specs.Date.{inBook}
-use Rattle.date.specs.Moves.{book-le, book-from}
+use Rattle.date.specs.Laws.Moves.{book-le, book-from}
 use Rattle.calendar.specs.declared.Convention.{Convention}
 use Rattle.calendar.specs.Open.{isOpen, calendarOk}
 use Rattle.calendar.specs.Adjust.{inSpan, openSteps, byUnit, advanced}
 use Rattle.calendar.specs.Calendar.{longest, tenorOk, advancedOf}
-use Rattle.advancing.specs.Signs.{Sum, sum}
-use Rattle.advancing.specs.OpenSteps.{of-span, return, from-open, one-way}
+use Rattle.advancing.specs.Laws.Signs.{Sum, sum}
+use Rattle.advancing.specs.Laws.OpenSteps.{of-span, return, from-open, one-way}
 
 -- neither is negative, or neither is positive
 pub data Like (a b : ℤ) : Type 0 where

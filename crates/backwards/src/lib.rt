@@ -2,7 +2,7 @@
 ghost use mathlib.Core.Path.{_≡_};
 ghost use mathlib.Core.Bool.{true};
 ghost use Rattle.steps.specs.Rules.{paceOf};
-ghost use Rattle.steps.specs.Fewer.{keptFrom, keptBackward};
+ghost use Rattle.steps.specs.Fewer.Steps.{keptFrom, keptBackward};
 ghost use Rattle.working.specs.Part.{Part, Begun, held};
 ghost use Rattle.working.specs.Making.{Checked, Generates};
 use steps::Pace;

@@ -13,9 +13,9 @@ use borrow.Author.Needs.{needs}
 use Rattle.refusal.specs.Answer.{given, refused, CLOSED}
 use Rattle.date.specs.Date.{SPAN-FIRST, SPAN-LAST, step}
 use Rattle.calendar.specs.Open.{weeklyClosed, member, isOpen, closedOk}
-use Rattle.calendar.specs.Places.{Below, Above, LowerBound}
+use Rattle.calendar.specs.Inner.Places.{Below, Above, LowerBound}
 use Rattle.calendar.specs.Adjust.{firstOpen}
-use Rattle.calendar.specs.Search.{turn-open, turn-shut, turn-none}
+use Rattle.calendar.specs.Laws.Search.{turn-open, turn-shut, turn-none}
 use Rattle.calendar.proofs.Places.{strictly}
 use Rattle.calendar.proofs.Members.{present, between, below-to, above-from, below-none, above-end, shut-week, shut-listed, is-open}
 

@@ -9,30 +9,30 @@ use lib.ListN.{length, getD}
 use lib.Dec.{eqb, leb}
 use borrow.Author.Tests.{leb-true, eqb-true, eqb-false, eq-eqb, ne-eqb}
 use Rattle.refusal.specs.Answer.{Answer, given, refused, need, then, BOOK, TENOR}
-use Rattle.refusal.specs.Laws.{holds, passed, failed, need-given, then-given, then-refused, then-stepped, never-both, one-given, both}
+use Rattle.refusal.specs.Laws.Answers.{holds, passed, failed, need-given, then-given, then-refused, then-stepped, never-both, one-given, both}
 use lib.IntN.{ℤ, natAbs}
-use Rattle.period.specs.Signed.{isNegative}
+use Rattle.period.specs.Laws.Signed.{isNegative}
 use Rattle.period.specs.declared.Unit.{Unit}
 use Rattle.date.specs.declared.Date.{Date}
 use Rattle.date.specs.declared.Dated.{Dated}
 use Rattle.date.specs.declared.Dated.the-variants.{Day, Refused}
 use Rattle.date.specs.Civil.{fieldsOf}
 use Rattle.date.specs.Date.{SPAN-FIRST, SPAN-LAST, dated, step, withinSpan}
-use Rattle.date.specs.Made.{given-day, refused-day}
+use Rattle.date.specs.Laws.Made.{given-day, refused-day}
 use Rattle.calendar.specs.declared.Convention.{Convention}
 use Rattle.calendar.specs.declared.Convention.the-variants.{Following, ModifiedFollowing, Preceding}
 use Rattle.calendar.specs.declared.search.Near.{Near}
 use Rattle.calendar.specs.declared.search.Placed.{Placed}
 use Rattle.calendar.specs.declared.search.Placed.the-variants as placed-is
 use Rattle.calendar.specs.Open.{weeklyClosed, isOpen, closedOk, calendarOk}
-use Rattle.calendar.specs.Places.{LowerBound}
-use Rattle.calendar.specs.Near.{OneMonth, Known, Adjusts}
+use Rattle.calendar.specs.Inner.Places.{LowerBound}
+use Rattle.calendar.specs.Inner.Near.{OneMonth, Known, Adjusts}
 use Rattle.calendar.specs.Adjust.{inSpan, firstOpen, found, sameMonth, unlessLeft, modified, byConvention, adjusted, towards, openSteps, advanced}
 use Rattle.calendar.specs.Calendar.{placed, tenorOk}
-use Rattle.calendar.specs.Search.{span-need, adjusted-first}
+use Rattle.calendar.specs.Laws.Search.{span-need, adjusted-first}
 use Rattle.calendar.proofs.Places.{strictly}
 use Rattle.calendar.proofs.OneMonth.{start-known, start-left}
-use Rattle.calendar.specs.Told.{ok-closed}
+use Rattle.calendar.specs.Laws.Told.{ok-closed}
 use Rattle.calendar.proofs.Members.{present, between, above-from, above-end, shut-week, shut-listed, is-open}
 
 -- ---- rows of the table

@@ -11,10 +11,10 @@ use mir.Syntax.{w32, w64}
 use mir.Val.{SFits, toZ, ofZ}
 use borrow.Author.Tests.{le-leb, lt-leb}
 use Rattle.refusal.specs.Answer.{Answer, given, refused}
-use Rattle.refusal.specs.Laws.{fails, holds}
-use Rattle.period.specs.Signed.{same32}
+use Rattle.refusal.specs.Laws.Answers.{fails, holds}
+use Rattle.period.specs.Laws.Signed.{same32}
 use Rattle.crossing.specs.Answers.{done, withPlace, placed, Placed}
-use Rattle.crossing.specs.Calls.{told-given, told-refused}
+use Rattle.crossing.specs.Laws.Calls.{told-given, told-refused}
 
 module _ (a : Answer ℤ) (list : List ℤ) {r : ℤ} (s : mag r < 9223372036854775808) where
   pub place-short : length list < 1 → r ≡ negℤ (pos 14) → Placed a (toZ w64 (ofZ w64 r)) list list

@@ -17,14 +17,14 @@ use mir.Facts.{toZ-ofZ, toZ-pos}
 use borrow.Author.Needs.{needs}
 use borrow.Author.Tests.{le-leb, lt-leb}
 use Rattle.refusal.specs.Answer.{Answer, given, refused}
-use Rattle.refusal.specs.Laws.{fails, holds}
+use Rattle.refusal.specs.Laws.Answers.{fails, holds}
 use Rattle.refusal.specs.declared.Row.{Row}
 use Rattle.refusal.specs.Refusals.{Refusal, refusals, ofNumber, letters, nameOfNumber, rowsOf}
-use Rattle.refusal.specs.Searched.{found, passed, nowhere, row-name, list-keeps, row-kept}
+use Rattle.refusal.specs.Laws.Searched.{found, passed, nowhere, row-name, list-keeps, row-kept}
 use Rattle.steps.specs.Build.{over}
 use Rattle.crossing.specs.Answers.{oneNumber}
 use Rattle.crossing.specs.Names.{nameOf, fitting, textAfter, Spelled, Naming}
-use Rattle.crossing.specs.Calls.{told-refused}
+use Rattle.crossing.specs.Laws.Calls.{told-refused}
 
 pub record Writing (name old new : List ℕ) (k : ℕ) : Type 0 where
   pub within : k ≤ length name

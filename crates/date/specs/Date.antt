@@ -5,7 +5,7 @@ use mathlib.Core.Bool.{Bool, true, false, _&&_}
 use lib.Dec.{eqb, leb, ltb}
 use lib.IntN.{ℤ, natAbs, subℕ}
 use Rattle.refusal.specs.Answer.{Answer, given, refused, need, then, BOOK}
-use Rattle.period.specs.Signed.{isNegative}
+use Rattle.period.specs.Laws.Signed.{isNegative}
 use Rattle.period.specs.declared.Unit.{Unit}
 use Rattle.period.specs.declared.Unit.the-variants.{Days, Weeks, Months, Years}
 use Rattle.date.specs.declared.Fields.{Fields}

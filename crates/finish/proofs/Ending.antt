@@ -19,7 +19,7 @@ use Rattle.steps.specs.declared.Request.{Request}
 use Rattle.steps.specs.declared.Built.{Built}
 use Rattle.steps.specs.Rules.{ruleInForce, tenorInForce}
 use Rattle.steps.specs.Finish.{Merged, mergeEnd, mergeFront, mergeFrontIf, meetAtFront, wednesdays}
-use Rattle.steps.specs.Fewer.{fewAdjustments, keptFinish}
+use Rattle.steps.specs.Fewer.Steps.{fewAdjustments, keptFinish}
 use Rattle.steps.specs.Build.{refusedBuilt, answered, over, datesAfter, flagsAfter, Written}
 use Rattle.finish.specs.declared.merges.Start.{Start}
 use Rattle.finish.specs.declared.merges.Start.the-variants as start-is
@@ -27,7 +27,7 @@ use Rattle.finish.specs.declared.moving.Done.{Done}
 use Rattle.finish.specs.declared.moving.Done.the-variants.{Whole, Refused}
 use Rattle.finish.specs.Moving.{done}
 use Rattle.finish.specs.Ends.{EndMerged, leftFrom, Short, FrontMerged}
-use Rattle.finish.specs.Lending.{written-refused, written-as}
+use Rattle.finish.specs.Laws.Lending.{written-refused, written-as}
 use Rattle.finish.specs.Finishing.{acceptedBuilt, pair, scheduled, merges, Lent}
 
 -- ---- writing out

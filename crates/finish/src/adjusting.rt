@@ -5,7 +5,7 @@ ghost use Prim.Native.Nat.{_≤_};
 ghost use lib.ListN.{length};
 ghost use Rattle.calendar.specs.Open.{closedOk};
 ghost use Rattle.steps.specs.Finish.{moved, onFirst, onLast, onMiddle, wednesdays};
-ghost use Rattle.steps.specs.Fewer.{settles, middleUnless, lastAndMiddle, fewAdjustments};
+ghost use Rattle.steps.specs.Fewer.Steps.{settles, middleUnless, lastAndMiddle, fewAdjustments};
 ghost use Rattle.finish.specs.Moving.{done};
 use crate::moving;
 use crate::moving::Done;

@@ -5,7 +5,7 @@ ghost use lib.ListN.{length};
 ghost use Rattle.refusal.specs.Answer.{then};
 ghost use Rattle.calendar.specs.Open.{closedOk};
 ghost use Rattle.steps.specs.Finish.{mergeEnd, mergeFront};
-ghost use Rattle.steps.specs.Fewer.{fewAdjustments, keptFinish};
+ghost use Rattle.steps.specs.Fewer.Steps.{fewAdjustments, keptFinish};
 ghost use Rattle.steps.specs.Build.{Written};
 ghost use Rattle.finish.specs.Finishing.{acceptedBuilt, pair, scheduled, merges, Lent, lentRefusal, completed};
 use crate::merges::Start;

@@ -10,13 +10,13 @@ use lib.ListN.{length}
 use lib.IntN.{natAbs}
 use borrow.Author.Tests.{eq-eqb, ne-eqb, lt-ltb, le-ltb}
 use Rattle.refusal.specs.Answer.{Answer, given, refused, then, ROOM}
-use Rattle.refusal.specs.Laws.{fails, holds, then-given, then-refused}
+use Rattle.refusal.specs.Laws.Answers.{fails, holds, then-given, then-refused}
 use Rattle.period.specs.declared.Unit.the-variants.{Months}
 use Rattle.date.specs.declared.Date.{Date}
 use Rattle.date.specs.declared.Dated.{Dated}
 use Rattle.date.specs.declared.Dated.the-variants as dated-is
 use Rattle.date.specs.Date.{SPAN-LAST, dated, shifted, shiftMonths}
-use Rattle.date.specs.Made.{given-day, refused-day}
+use Rattle.date.specs.Laws.Made.{given-day, refused-day}
 use Rattle.calendar.specs.Adjust.{adjusted, advanced}
 use Rattle.steps.specs.declared.Rule.{Rule}
 use Rattle.steps.specs.declared.Request.{Request}

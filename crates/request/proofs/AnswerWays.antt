@@ -10,13 +10,13 @@ use borrow.Author.Tests.{eq-eqb, eqb-true, eqb-false, le-leb, lt-leb}
 use lib.Dec.{eqb, leb}
 use lib.ListN.{length, getD, take, drop, replicate}
 use Rattle.refusal.specs.Answer.{Answer, given, refused, need, then}
-use Rattle.refusal.specs.Laws.{fails, holds, then-given, then-refused}
+use Rattle.refusal.specs.Laws.Answers.{fails, holds, then-given, then-refused}
 use Rattle.steps.specs.declared.Request.{Request}
 use Rattle.steps.specs.Build.{over}
 use Rattle.request.specs.declared.Decoded.{Decoded}
 use Rattle.request.specs.declared.Decoded.the-variants as decoded-is
 use Rattle.request.specs.Format.{pick, isDate, bodyOk, datesOf, requestFrom, closedFrom, Asked, askedFrom, askedIn, fieldsFrom, decoded}
-use Rattle.request.specs.Places.{twoAt, bodyAt, placed, datesAt, Sized, Lies, Kept, Found, reads, Blank}
+use Rattle.request.specs.Inner.Places.{twoAt, bodyAt, placed, datesAt, Sized, Lies, Kept, Found, reads, Blank}
 use Rattle.request.specs.Decode.{answered, closedAfter, Decodes}
 use Rattle.request.proofs.AskWays.{left-out-body, body-there, long-there, kept-1, kept-2, by-fours}
 use Rattle.request.proofs.WriteWays.{dates-length}

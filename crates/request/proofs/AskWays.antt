@@ -24,8 +24,8 @@ use Rattle.steps.specs.declared.Rule.{Rule}
 use Rattle.calendar.specs.Adjust.{conventions}
 use Rattle.steps.specs.Rules.{rules}
 use Rattle.request.specs.Format.{pick, two, four, signed16, isDate, isTenor, isBelow, areDates, bodyOk, byteOf, dateOf, unitOf, tenorOf, ruleOf, conventionOf, requestFrom}
-use Rattle.request.specs.Picks.{taken, left}
-use Rattle.request.specs.Places.{twoAt, Pair, bodyAt, Sized, Lies, Kept}
+use Rattle.request.specs.Laws.Picks.{taken, left}
+use Rattle.request.specs.Inner.Places.{twoAt, Pair, bodyAt, Sized, Lies, Kept}
 
 -- ---- a body that was left out, and one that is there
 module _ (bytes : List ℕ) {place : ℕ} where

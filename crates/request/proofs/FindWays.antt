@@ -14,8 +14,8 @@ use Rattle.refusal.specs.Answer.{then}
 use Rattle.request.specs.declared.fields.Step.{Step}
 use Rattle.request.specs.declared.fields.Step.the-variants.{Broken, End, Next}
 use Rattle.request.specs.Format.{Field, lastTag, cutOf, onCut, fieldsFrom, bodyOr}
-use Rattle.request.specs.Picks.{taken, left}
-use Rattle.request.specs.Places.{twoAt, bodyAt, placed, Lies, Kept, Framed, stepped, framed, Steps, reads, Blank}
+use Rattle.request.specs.Laws.Picks.{taken, left}
+use Rattle.request.specs.Inner.Places.{twoAt, bodyAt, placed, Lies, Kept, Framed, stepped, framed, Steps, reads, Blank}
 
 pub record Reached (bytes places : List ℕ) (at last : ℕ) : Type 0 where
   pub fields : List Field

@@ -6,7 +6,7 @@ ghost use lib.ListN.{length};
 ghost use Rattle.steps.specs.Build.{over};
 ghost use Rattle.request.specs.Tags.{CLOSED};
 ghost use Rattle.request.specs.Format.{byteOf, dateOf, tenorOf, requestFrom};
-ghost use Rattle.request.specs.Places.{bodyAt, datesAt, Sized, Lies, Kept, placed};
+ghost use Rattle.request.specs.Inner.Places.{bodyAt, datesAt, Sized, Lies, Kept, placed};
 use crate::bodies;
 use crate::numbers;
 use crate::places;

@@ -1,7 +1,7 @@
 // Requests as bytes: tagged fields, each framed by its length.
 ghost use lib.ListN.{length};
 ghost use Rattle.request.specs.Format.{askedFrom, decoded};
-ghost use Rattle.request.specs.Places.{Kept, placed, Blank};
+ghost use Rattle.request.specs.Inner.Places.{Kept, placed, Blank};
 ghost use Rattle.request.specs.Decode.{Decodes};
 ghost use Rattle.request.specs.Encode.{Encodes, encoded};
 use steps::Request;

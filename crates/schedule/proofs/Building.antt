@@ -8,16 +8,16 @@ use native.Mathlib.Omega.{arith}
 use lib.ListN.{length, take, drop, length-drop}
 use lib.Seq.{take-all, length-take-le}
 use Rattle.refusal.specs.Answer.{Answer, given, refused, then}
-use Rattle.refusal.specs.Laws.{then-given, then-refused}
+use Rattle.refusal.specs.Laws.Answers.{then-given, then-refused}
 use Rattle.steps.specs.declared.Rule.{Rule}
 use Rattle.steps.specs.declared.Request.{Request}
 use Rattle.steps.specs.declared.Built.{Built}
 use Rattle.steps.specs.Rules.{isZero, isBackward, ruleInForce}
 use Rattle.steps.specs.Table.{firstRow, inputRows}
-use Rattle.steps.specs.TableLaws.{accepted}
+use Rattle.steps.specs.Laws.Table.{accepted}
 use Rattle.steps.specs.Generate.{nothing, put, zeroDates, forward}
-use Rattle.steps.specs.Fewer.{keptBackward, keptBy, kept, keptFinish, keptSteps}
-use Rattle.steps.specs.FewerLaws.{kept-steps}
+use Rattle.steps.specs.Fewer.Steps.{keptBackward, keptBy, kept, keptFinish, keptSteps}
+use Rattle.steps.specs.Fewer.Same.{kept-steps}
 use Rattle.steps.specs.Build.{refusedBuilt, Schedule, stepsOf, admitted, buildOf, answered, datesAfter, flagsAfter, Written}
 use Rattle.working.specs.declared.Filled.{Filled}
 use Rattle.working.specs.declared.Filled.the-variants as filled-is
@@ -25,7 +25,7 @@ use Rattle.working.specs.declared.Generated.{Generated}
 use Rattle.working.specs.declared.Generated.the-variants as generated-is
 use Rattle.working.specs.Part.{Part, held, lastPut, Filling}
 use Rattle.finish.specs.Finishing.{scheduled, Lent, completed}
-use Rattle.finish.specs.Lending.{lent-fits, completed-on}
+use Rattle.finish.specs.Laws.Lending.{lent-fits, completed-on}
 use Rattle.working.specs.Making.{Checked, generated, Lies, Generates}
 use Rattle.working.specs.Held.{put-length}
 use Rattle.working.specs.Chains.{filled-part, filled-given}

@@ -1,6 +1,6 @@
 // The dates of a build, by the rule in force.
 ghost use Rattle.steps.specs.Generate.{zeroDates};
-ghost use Rattle.steps.specs.Fewer.{kept};
+ghost use Rattle.steps.specs.Fewer.Steps.{kept};
 ghost use Rattle.working.specs.Part.{Part};
 ghost use Rattle.working.specs.Making.{Checked, Generates};
 use steps::Request;

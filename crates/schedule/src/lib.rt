@@ -6,7 +6,7 @@ ghost use lib.ListN.{length, take, drop};
 ghost use Rattle.refusal.specs.Answer.{then};
 ghost use Rattle.calendar.specs.Open.{closedOk};
 ghost use Rattle.steps.specs.Build.{Written, stepsOf, buildOf};
-ghost use Rattle.steps.specs.Fewer.{keptFinish};
+ghost use Rattle.steps.specs.Fewer.Steps.{keptFinish};
 ghost use Rattle.working.specs.Part.{Part};
 ghost use Rattle.working.specs.Making.{Checked};
 ghost use Rattle.finish.specs.Finishing.{scheduled};

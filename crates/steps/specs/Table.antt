@@ -8,7 +8,7 @@ use lib.IntN.{natAbs}
 use Rattle.refusal.specs.Answer.{UNEVEN, BOOK, CALENDAR, NEGATIVE, TENOR, FIRST-DATE, FIRST-NOT-IMM, FIRST-WRONG-RULE, LAST-DATE, LAST-NOT-IMM, LAST-WRONG-RULE, MONTHEND, SHORTEND}
 use Rattle.period.specs.declared.Unit.{Unit}
 use Rattle.period.specs.declared.Unit.the-variants.{Days, Weeks, Months, Years}
-use Rattle.period.specs.Signed.{isNegative, isPositive}
+use Rattle.period.specs.Laws.Signed.{isNegative, isPositive}
 use Rattle.date.specs.Date.{inBook}
 use Rattle.calendar.specs.Open.{calendarOk}
 use Rattle.calendar.specs.Calendar.{tenorOk}

@@ -12,7 +12,7 @@ use lib.Dec.{eqb, ltb}
 use borrow.Author.Tests.{lt-ltb, le-ltb, ltb-true, eq-eqb, eqb-true}
 use borrow.Author.Needs.{needs}
 use Rattle.refusal.specs.Answer.{ROOM}
-use Rattle.refusal.specs.Laws.{fails, holds}
+use Rattle.refusal.specs.Laws.Answers.{fails, holds}
 use Rattle.steps.specs.Generate.{put, hasRoom, newest}
 use Rattle.working.specs.declared.Filled.the-variants.{Ready, Refused}
 use Rattle.working.specs.Part.{Part, held, lastPut, hasPlace, placeOf, filled, Placed, Filling}

@@ -7,21 +7,21 @@ use Prim.Native.Nat.{ℕ}
 use lib.Dec.{ltb}
 use borrow.Author.Tests.{eq-eqb, ne-eqb}
 use Rattle.refusal.specs.Answer.{given, refused}
-use Rattle.refusal.specs.Laws.{then-given, then-refused}
+use Rattle.refusal.specs.Laws.Answers.{then-given, then-refused}
 use Rattle.date.specs.declared.Date.{Date}
 use Rattle.date.specs.declared.Dated.{Dated}
 use Rattle.date.specs.declared.Dated.the-variants.{Day, Refused}
 use Rattle.date.specs.Date.{dated}
-use Rattle.date.specs.Made.{given-day, refused-day}
+use Rattle.date.specs.Laws.Made.{given-day, refused-day}
 use Rattle.calendar.specs.declared.Convention.{Convention}
 use Rattle.calendar.specs.declared.search.Near.{Near}
 use Rattle.calendar.specs.Adjust.{adjusted}
-use Rattle.calendar.specs.Near.{OneMonth}
-use Rattle.calendar.specs.Stays.{adjust-again}
+use Rattle.calendar.specs.Inner.Near.{OneMonth}
+use Rattle.calendar.specs.Laws.Stays.{adjust-again}
 use Rattle.steps.specs.declared.Pace.{Pace}
 use Rattle.steps.specs.declared.Seed.{Seed}
 use Rattle.steps.specs.Candidates.{candidate, isPast, unlessSame}
-use Rattle.steps.specs.Fewer.{unlessPastKept, turnKept}
+use Rattle.steps.specs.Fewer.Steps.{unlessPastKept, turnKept}
 use Rattle.working.specs.declared.candidates.Turn.{Turn}
 use Rattle.working.specs.declared.candidates.Turn.the-variants.{Past, Skip, Keep, Stop}
 use Rattle.working.specs.Turning.{Front, told, Learnt, Compared}

@@ -15,12 +15,12 @@ use Rattle.calendar.specs.declared.Convention.{Convention}
 use Rattle.calendar.specs.declared.search.Near.{Near}
 use Rattle.calendar.specs.Open.{closedOk}
 use Rattle.calendar.specs.Adjust.{adjusted}
-use Rattle.calendar.specs.Near.{OneMonth}
+use Rattle.calendar.specs.Inner.Near.{OneMonth}
 use Rattle.steps.specs.declared.Pace.{Pace}
 use Rattle.steps.specs.declared.Seed.{Seed}
 use Rattle.steps.specs.Candidates as steps
 use Rattle.steps.specs.Candidates.{candidate, isPast, unlessSame}
-use Rattle.steps.specs.Fewer.{unlessPastKept, turnKept}
+use Rattle.steps.specs.Fewer.Steps.{unlessPastKept, turnKept}
 use Rattle.steps.specs.Generate.{Lists, Walk, newest, put, onTurn, lastTry, walk}
 use Rattle.working.specs.declared.Filled.{Filled}
 use Rattle.working.specs.declared.Filled.the-variants as filled-is

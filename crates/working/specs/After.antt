@@ -5,7 +5,7 @@ use mathlib.Core.Bool.{Bool, false}
 use mathlib.Core.List.{List}
 use Prim.Native.Nat.{ℕ, _<_}
 use Rattle.refusal.specs.Answer.{Answer, given, refused, then}
-use Rattle.refusal.specs.Laws.{then-given, then-refused}
+use Rattle.refusal.specs.Laws.Answers.{then-given, then-refused}
 use Rattle.calendar.specs.declared.Convention.{Convention}
 use Rattle.steps.specs.declared.Pace.{Pace}
 use Rattle.steps.specs.declared.Seed.{Seed}
@@ -13,8 +13,8 @@ use Rattle.steps.specs.declared.Request.{Request}
 use Rattle.steps.specs.Rules.{paceOf}
 use Rattle.steps.specs.Candidates.{Turn, seedOf}
 use Rattle.steps.specs.Generate.{Lists, Walk, Made, newest, walk, candidates, lastTry}
-use Rattle.steps.specs.Fewer.{turnKept}
-use Rattle.steps.specs.Met.{turn-as-is}
+use Rattle.steps.specs.Fewer.Steps.{turnKept}
+use Rattle.steps.specs.Fewer.Met.{turn-as-is}
 use Rattle.working.specs.declared.Filled.{Filled}
 use Rattle.working.specs.declared.Filled.the-variants as filled-is
 use Rattle.working.specs.declared.adds.Added.{Added}

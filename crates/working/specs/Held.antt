@@ -8,7 +8,7 @@ use native.Mathlib.Omega.{arith}
 use lib.ListN.{length, take, length-drop, length-reverse, drop-of-length-le}
 use lib.Seq.{length-take-le}
 use Rattle.refusal.specs.Answer.{given, ROOM}
-use Rattle.refusal.specs.Laws.{need-given}
+use Rattle.refusal.specs.Laws.Answers.{need-given}
 use Rattle.calendar.specs.Open.{closedOk}
 use Rattle.steps.specs.Generate.{Lists, nothing, newest, onto, hasRoom, put}
 use Rattle.working.specs.Part.{Part, Begun, held, lastPut}

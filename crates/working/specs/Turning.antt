@@ -7,7 +7,7 @@ use mathlib.Core.List.{List}
 use Rattle.refusal.specs.Answer.{Answer, given, refused}
 use Rattle.calendar.specs.declared.Convention.{Convention}
 use Rattle.calendar.specs.Adjust.{adjusted}
-use Rattle.calendar.specs.Near.{OneMonth}
+use Rattle.calendar.specs.Inner.Near.{OneMonth}
 use Rattle.steps.specs.Candidates as steps
 use Rattle.steps.specs.Generate.{Walk, newest}
 use Rattle.working.specs.declared.candidates.Turn.{Turn}

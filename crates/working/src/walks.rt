@@ -1,5 +1,5 @@
 // The loop over the candidates.
-ghost use Rattle.steps.specs.Fewer.{turnKept};
+ghost use Rattle.steps.specs.Fewer.Steps.{turnKept};
 ghost use Rattle.steps.specs.Generate.{lastTry, walk};
 ghost use Rattle.working.specs.Part.{Begun, held};
 ghost use Rattle.working.specs.Turning.{Walking};

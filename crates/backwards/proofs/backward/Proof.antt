@@ -5,7 +5,7 @@ use Rattle.working.specs.Held.{begun-of}
 use Rattle.working.specs.Paces.{pace-checked}
 use Rattle.backwards.proofs.Backing.{begun-is}
 use mathlib.Core.Path.{_∙_}
-use Rattle.steps.specs.Fewer.{keptBackward}
+use Rattle.steps.specs.Fewer.Steps.{keptBackward}
 use Rattle.working.specs.After.{filled-ends, filled-makes}
 use borrow.Author.Needs.{needs}
 use Rattle.backwards.proofs.backward.Statement.{statement}

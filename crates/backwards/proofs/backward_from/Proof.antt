@@ -2,7 +2,7 @@
 -- Assumes nothing.
 use Rattle.working.specs.Held.{begun-of}
 use Rattle.backwards.proofs.Backing.{back-end-seed}
-use Rattle.steps.specs.Fewer.{keptFrom}
+use Rattle.steps.specs.Fewer.Steps.{keptFrom}
 use Rattle.working.specs.After.{walking-as, walked-stands, walked-ends, walked-makes, generates-as, loop-is}
 use borrow.Author.Needs.{needs}
 use Rattle.backwards.proofs.backward_from.Statement.{statement}

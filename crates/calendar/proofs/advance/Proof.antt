@@ -2,8 +2,8 @@
 -- Assumes nothing.
 use mir.Syntax.{w32}
 use mir.Val.{SFits}
-use Rattle.refusal.specs.Laws.{passed, failed}
-use Rattle.period.specs.Signed.{same32}
+use Rattle.refusal.specs.Laws.Answers.{passed, failed}
+use Rattle.period.specs.Laws.Signed.{same32}
 use Rattle.date.specs.Date.{dated}
 use Rattle.calendar.specs.Calendar.{advancedOf}
 use Rattle.calendar.proofs.Ways.{sound-closed, tenor-long, tenor-fits}

@@ -1,7 +1,7 @@
 -- `calendar::check` meets its contract.
 -- Assumes nothing.
 use mathlib.Core.Path.{refl}
-use Rattle.refusal.specs.Laws.{passed, failed}
+use Rattle.refusal.specs.Laws.Answers.{passed, failed}
 use Rattle.calendar.specs.Calendar.{checked, checkOf}
 use borrow.Author.Needs.{needs}
 use Rattle.calendar.proofs.check.Statement.{statement}

@@ -2,7 +2,7 @@
 -- Assumes nothing.
 use mathlib.Core.Path.{refl}
 use borrow.Author.Tests.{eq-eqb, ne-eqb}
-use Rattle.refusal.specs.Laws.{holds, passed, failed}
+use Rattle.refusal.specs.Laws.Answers.{holds, passed, failed}
 use Rattle.calendar.specs.Calendar.{decided, unlessEmpty, isMonthEndOf}
 use Rattle.calendar.proofs.Ways.{sound-closed}
 use borrow.Author.Needs.{needs}

@@ -2,7 +2,7 @@
 -- Assumes nothing.
 use mathlib.Core.Path.{_∙_, ap, sym}
 use Rattle.refusal.specs.Answer.{given}
-use Rattle.refusal.specs.Laws.{passed, failed}
+use Rattle.refusal.specs.Laws.Answers.{passed, failed}
 use Rattle.calendar.specs.Calendar.{decided, isOpenOf}
 use Rattle.calendar.proofs.Ways.{sound-closed}
 use borrow.Author.Needs.{needs}

@@ -1,7 +1,7 @@
 -- `finish::complete` meets its contract.
 -- Assumes nothing.
 use mathlib.Core.Path.{sym, _∙_}
-use Rattle.finish.specs.Lending.{written-as, lent-of, lent-stop, completed-on}
+use Rattle.finish.specs.Laws.Lending.{written-as, lent-of, lent-stop, completed-on}
 use borrow.Author.Needs.{needs}
 use Rattle.finish.proofs.complete.Statement.{statement}
 use Rattle.finish.proofs.complete.Tie as tie

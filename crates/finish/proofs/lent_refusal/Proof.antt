@@ -1,7 +1,7 @@
 -- `finish::lent_refusal` meets its contract.
 -- Assumes nothing.
 use native.Mathlib.Omega.{arith}
-use Rattle.finish.specs.Lending.{uneven-lent, uneven-marks, no-room, room-for}
+use Rattle.finish.specs.Laws.Lending.{uneven-lent, uneven-marks, no-room, room-for}
 use borrow.Author.Needs.{needs}
 use Rattle.finish.proofs.lent_refusal.Statement.{statement}
 use Rattle.finish.proofs.lent_refusal.Tie as tie

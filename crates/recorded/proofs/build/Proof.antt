@@ -2,7 +2,7 @@
 -- Assumes nothing.
 use mathlib.Core.Path.{refl}
 use Rattle.recorded.proofs.Recording.{reported-short, reported-refused, reported-built}
-use Rattle.crossing.specs.Calls.{request-named, request-unnamed}
+use Rattle.crossing.specs.Laws.Calls.{request-named, request-unnamed}
 use borrow.Author.Needs.{needs}
 use Rattle.recorded.proofs.build.Statement.{statement}
 use Rattle.recorded.proofs.build.Tie as tie

@@ -2,7 +2,7 @@
 -- Assumes nothing.
 use Rattle.crossing.specs.Requests.{asked}
 use Rattle.recorded.proofs.Reading.{part-fits, part-is, request-is, refusal-is, closed-as, closed-unread}
-use Rattle.recorded.specs.Handed.{reported-as}
+use Rattle.recorded.specs.Laws.Handed.{reported-as}
 use borrow.Author.Needs.{needs}
 use Rattle.recorded.proofs.build_read.Statement.{statement}
 use Rattle.recorded.proofs.build_read.Tie as tie

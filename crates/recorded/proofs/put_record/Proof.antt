@@ -2,7 +2,7 @@
 -- Assumes nothing.
 use mathlib.Core.Path.{ap, _∙_}
 use lib.IntN.{natAbs}
-use Rattle.period.specs.Signed.{same32}
+use Rattle.period.specs.Laws.Signed.{same32}
 use Rattle.recorded.proofs.Recording.{second, third, fourth, fifth, record-put}
 use borrow.Author.Needs.{needs}
 use Rattle.recorded.proofs.put_record.Statement.{statement}

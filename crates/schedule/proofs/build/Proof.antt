@@ -1,7 +1,7 @@
 -- `schedule::build` meets its contract.
 -- Assumes nothing.
 use Rattle.schedule.proofs.Building.{refusal-written, build-refused, build-admitted, build-checked, part-empty}
-use Rattle.finish.specs.Lending.{written-as}
+use Rattle.finish.specs.Laws.Lending.{written-as}
 use borrow.Author.Needs.{needs}
 use Rattle.schedule.proofs.build.Statement.{statement}
 use Rattle.schedule.proofs.build.Tie as tie

@@ -2,7 +2,7 @@
 -- Assumes nothing.
 use mathlib.Core.Path.{refl}
 use Rattle.schedule.proofs.Building.{part-is, finish-is, lent-part}
-use Rattle.finish.specs.Lending.{written-as}
+use Rattle.finish.specs.Laws.Lending.{written-as}
 use borrow.Author.Needs.{needs}
 use Rattle.schedule.proofs.finish_part.Statement.{statement}
 use Rattle.schedule.proofs.finish_part.Tie as tie

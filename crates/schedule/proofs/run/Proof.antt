@@ -2,7 +2,7 @@
 -- Assumes nothing.
 use native.Mathlib.Omega.{arith}
 use Rattle.schedule.proofs.Building.{refusal-written, run-stop, run-on, run-lies, room-enough}
-use Rattle.finish.specs.Lending.{written-as}
+use Rattle.finish.specs.Laws.Lending.{written-as}
 use borrow.Author.Needs.{needs}
 use Rattle.schedule.proofs.run.Statement.{statement}
 use Rattle.schedule.proofs.run.Tie as tie

@@ -1,8 +1,8 @@
 -- `calendar::search::add_months` meets its contract.
 -- Assumes nothing.
-use Rattle.refusal.specs.Laws.{then-given, then-refused}
+use Rattle.refusal.specs.Laws.Answers.{then-given, then-refused}
 use Rattle.date.specs.Date.{dated}
-use Rattle.date.specs.Made.{given-day, refused-day}
+use Rattle.date.specs.Laws.Made.{given-day, refused-day}
 use Rattle.calendar.specs.Adjust.{addMonths}
 use Rattle.calendar.proofs.Ways.{then-same}
 use borrow.Author.Needs.{needs}

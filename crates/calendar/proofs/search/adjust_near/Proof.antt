@@ -2,8 +2,8 @@
 -- Assumes nothing.
 use mathlib.Core.Path.{sym, _∙_}
 use Rattle.calendar.specs.Adjust.{adjusted, byConvention}
-use Rattle.calendar.specs.Search.{span-need}
-use Rattle.calendar.specs.Stays.{open-stays}
+use Rattle.calendar.specs.Laws.Search.{span-need}
+use Rattle.calendar.specs.Laws.Stays.{open-stays}
 use borrow.Author.Needs.{needs}
 use Rattle.calendar.proofs.search.adjust_near.Statement.{statement}
 use Rattle.calendar.proofs.search.adjust_near.Tie as tie

@@ -1,6 +1,6 @@
 -- `calendar::search::advance` meets its contract.
 -- Assumes nothing.
-use Rattle.refusal.specs.Laws.{passed, failed}
+use Rattle.refusal.specs.Laws.Answers.{passed, failed}
 use Rattle.date.specs.Date.{dated}
 use Rattle.calendar.specs.Adjust.{byUnit, advanced}
 use borrow.Author.Needs.{needs}

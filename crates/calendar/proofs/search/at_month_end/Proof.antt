@@ -3,9 +3,9 @@
 use mathlib.Core.Path.{_∙_, ap, sym}
 use mathlib.Core.Bool.{Bool, not}
 use Rattle.refusal.specs.Answer.{given}
-use Rattle.refusal.specs.Laws.{passed, failed, then-given, then-refused}
+use Rattle.refusal.specs.Laws.Answers.{passed, failed, then-given, then-refused}
 use Rattle.date.specs.Date.{step}
-use Rattle.date.specs.Made.{given-day, refused-day}
+use Rattle.date.specs.Laws.Made.{given-day, refused-day}
 use Rattle.calendar.specs.Adjust.{towards, atMonthEnd}
 use Rattle.calendar.specs.Calendar.{decided}
 use Rattle.calendar.proofs.Ways.{span-one, following-one}

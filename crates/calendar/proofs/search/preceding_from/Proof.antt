@@ -1,6 +1,6 @@
 -- `calendar::search::preceding_from` meets its contract.
 -- Assumes nothing.
-use Rattle.refusal.specs.Laws.{failed}
+use Rattle.refusal.specs.Laws.Answers.{failed}
 use Rattle.date.specs.Date.{dated}
 use Rattle.calendar.specs.Adjust.{adjusted, byConvention}
 use Rattle.calendar.proofs.Ways.{span-from, span-to, look-day, look-refused}

@@ -2,7 +2,7 @@
 -- Assumes nothing.
 use mathlib.Core.Path.{_∙_}
 use Rattle.calendar.specs.Adjust.{adjusted, byConvention}
-use Rattle.calendar.specs.Search.{span-need}
+use Rattle.calendar.specs.Laws.Search.{span-need}
 use borrow.Author.Needs.{needs}
 use Rattle.calendar.proofs.search.search_from.Statement.{statement}
 use Rattle.calendar.proofs.search.search_from.Tie as tie

@@ -1,8 +1,8 @@
 -- `capi::builds::heronspan_build` meets its contract.
 -- Assumes nothing.
 use Rattle.crossing.specs.Requests.{requestOf}
-use Rattle.crossing.specs.Calls.{same-count}
-use Rattle.recorded.specs.Handed.{reported-as}
+use Rattle.crossing.specs.Laws.Calls.{same-count}
+use Rattle.recorded.specs.Laws.Handed.{reported-as}
 use borrow.Author.Needs.{needs}
 use Rattle.capi.proofs.builds.heronspan_build.Statement.{statement}
 use Rattle.capi.proofs.builds.heronspan_build.Tie as tie

@@ -2,7 +2,7 @@
 -- Assumes nothing.
 use Rattle.crossing.specs.Answers.{marked}
 use Rattle.crossing.specs.Requests.{requestOf}
-use Rattle.crossing.specs.Calls.{same-count, told, told-refused, named, unnamed, request-named, request-unnamed}
+use Rattle.crossing.specs.Laws.Calls.{same-count, told, told-refused, named, unnamed, request-named, request-unnamed}
 use borrow.Author.Needs.{needs}
 use Rattle.capi.proofs.builds.heronspan_coming.Statement.{statement}
 use Rattle.capi.proofs.builds.heronspan_coming.Tie as tie

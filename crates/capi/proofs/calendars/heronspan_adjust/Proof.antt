@@ -1,7 +1,7 @@
 -- `capi::calendars::heronspan_adjust` meets its contract.
 -- Assumes nothing.
 use Rattle.crossing.specs.Answers.{itself}
-use Rattle.crossing.specs.Calls.{told, told-refused, named, unnamed, convention-named, convention-unnamed}
+use Rattle.crossing.specs.Laws.Calls.{told, told-refused, named, unnamed, convention-named, convention-unnamed}
 use borrow.Author.Needs.{needs}
 use Rattle.capi.proofs.calendars.heronspan_adjust.Statement.{statement}
 use Rattle.capi.proofs.calendars.heronspan_adjust.Tie as tie

@@ -2,7 +2,7 @@
 -- Assumes nothing.
 use Rattle.calendar.specs.Calendar.{advancedOf}
 use Rattle.crossing.specs.Answers.{itself}
-use Rattle.crossing.specs.Calls.{told, told-refused, named, unnamed, unit-named, unit-unnamed, convention-named, convention-unnamed, flag-named, flag-unnamed, same-count}
+use Rattle.crossing.specs.Laws.Calls.{told, told-refused, named, unnamed, unit-named, unit-unnamed, convention-named, convention-unnamed, flag-named, flag-unnamed, same-count}
 use borrow.Author.Needs.{needs}
 use Rattle.capi.proofs.calendars.heronspan_calendar_advance.Statement.{statement}
 use Rattle.capi.proofs.calendars.heronspan_calendar_advance.Tie as tie

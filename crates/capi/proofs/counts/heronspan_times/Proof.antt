@@ -4,7 +4,7 @@ use Rattle.refusal.specs.Answer.{then}
 use Rattle.period.specs.Period.{timesOf}
 use Rattle.crossing.specs.Answers.{lengthIn}
 use Rattle.crossing.specs.Numbers.{unitOf}
-use Rattle.crossing.specs.Calls.{same-two}
+use Rattle.crossing.specs.Laws.Calls.{same-two}
 use Rattle.capi.proofs.Counting.{placed-as}
 use borrow.Author.Needs.{needs}
 use Rattle.capi.proofs.counts.heronspan_times.Statement.{statement}

@@ -3,7 +3,7 @@
 use mathlib.Core.Path.{ap}
 use Rattle.refusal.specs.Answer.{given}
 use Rattle.crossing.specs.Answers.{yes}
-use Rattle.crossing.specs.Calls.{told-given, told-refused, named, unnamed, flag-named, flag-unnamed}
+use Rattle.crossing.specs.Laws.Calls.{told-given, told-refused, named, unnamed, flag-named, flag-unnamed}
 use borrow.Author.Needs.{needs}
 use Rattle.capi.proofs.cycles.heronspan_is_imm_code.Statement.{statement}
 use Rattle.capi.proofs.cycles.heronspan_is_imm_code.Tie as tie

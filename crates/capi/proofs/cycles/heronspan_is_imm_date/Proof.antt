@@ -1,7 +1,7 @@
 -- `capi::cycles::heronspan_is_imm_date` meets its contract.
 -- Assumes nothing.
 use Rattle.crossing.specs.Answers.{yes}
-use Rattle.crossing.specs.Calls.{told, told-refused, named, unnamed, flag-named, flag-unnamed}
+use Rattle.crossing.specs.Laws.Calls.{told, told-refused, named, unnamed, flag-named, flag-unnamed}
 use borrow.Author.Needs.{needs}
 use Rattle.capi.proofs.cycles.heronspan_is_imm_date.Statement.{statement}
 use Rattle.capi.proofs.cycles.heronspan_is_imm_date.Tie as tie

@@ -1,7 +1,7 @@
 -- `capi::cycles::heronspan_next_imm_code` meets its contract.
 -- Assumes nothing.
 use Rattle.crossing.specs.Answers.{twoBytes}
-use Rattle.crossing.specs.Calls.{told, told-refused, named, unnamed, flag-named, flag-unnamed}
+use Rattle.crossing.specs.Laws.Calls.{told, told-refused, named, unnamed, flag-named, flag-unnamed}
 use borrow.Author.Needs.{needs}
 use Rattle.capi.proofs.cycles.heronspan_next_imm_code.Statement.{statement}
 use Rattle.capi.proofs.cycles.heronspan_next_imm_code.Tie as tie

@@ -1,7 +1,7 @@
 -- `capi::cycles::heronspan_previous_twentieth` meets its contract.
 -- Assumes nothing.
 use Rattle.crossing.specs.Answers.{itself}
-use Rattle.crossing.specs.Calls.{told, told-refused, named, unnamed, rule-named, rule-unnamed}
+use Rattle.crossing.specs.Laws.Calls.{told, told-refused, named, unnamed, rule-named, rule-unnamed}
 use borrow.Author.Needs.{needs}
 use Rattle.capi.proofs.cycles.heronspan_previous_twentieth.Statement.{statement}
 use Rattle.capi.proofs.cycles.heronspan_previous_twentieth.Tie as tie

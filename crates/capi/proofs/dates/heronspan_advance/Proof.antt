@@ -1,6 +1,6 @@
 -- `capi::dates::heronspan_advance` meets its contract.
 -- Assumes nothing.
-use Rattle.crossing.specs.Calls.{told, told-refused, named, unnamed, unit-named, unit-unnamed, same-count}
+use Rattle.crossing.specs.Laws.Calls.{told, told-refused, named, unnamed, unit-named, unit-unnamed, same-count}
 use Rattle.date.specs.Date.{advanceOf}
 use Rattle.crossing.specs.Answers.{itself}
 use borrow.Author.Needs.{needs}

@@ -1,6 +1,6 @@
 -- `capi::refusals::heronspan_refusal_text` meets its contract.
 -- Assumes nothing.
-use Rattle.crossing.specs.Calls.{spelled-as, same-name}
+use Rattle.crossing.specs.Laws.Calls.{spelled-as, same-name}
 use borrow.Author.Needs.{needs}
 use Rattle.capi.proofs.refusals.heronspan_refusal_text.Statement.{statement}
 use Rattle.capi.proofs.refusals.heronspan_refusal_text.Tie as tie

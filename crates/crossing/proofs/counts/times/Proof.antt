@@ -4,7 +4,7 @@ use mathlib.Core.Path.{ap, _∙_}
 use Rattle.period.specs.Period.{timesOf}
 use Rattle.date.specs.Date.{counted}
 use Rattle.crossing.specs.Answers.{lengthIn}
-use Rattle.crossing.specs.Calls.{named, unnamed, unit-named, unit-unnamed, same-two}
+use Rattle.crossing.specs.Laws.Calls.{named, unnamed, unit-named, unit-unnamed, same-two}
 use borrow.Author.Needs.{needs}
 use Rattle.crossing.proofs.counts.times.Statement.{statement}
 use Rattle.crossing.proofs.counts.times.Tie as tie

@@ -3,7 +3,7 @@
 use mathlib.Core.Path.{sym, _∙_}
 use lib.Seq.{length-take-le}
 use borrow.Author.Needs.{needs}
-use Rattle.crossing.specs.Calls.{spelled-as, same-name}
+use Rattle.crossing.specs.Laws.Calls.{spelled-as, same-name}
 use Rattle.crossing.proofs.names.put_refusal.Statement.{statement}
 use Rattle.crossing.proofs.names.put_refusal.Tie as tie
 use Rattle.crossing.proofs.names.put_refusal.Reads as reads

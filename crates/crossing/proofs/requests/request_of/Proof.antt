@@ -1,9 +1,9 @@
 -- `crossing::requests::request_of` meets its contract.
 -- Assumes nothing.
 use mathlib.Core.Path.{refl}
-use Rattle.period.specs.Signed.{same32}
+use Rattle.period.specs.Laws.Signed.{same32}
 use Rattle.crossing.specs.Requests.{requestOf, asked}
-use Rattle.crossing.specs.Calls.{named, unnamed, unit-named, unit-unnamed, rule-named, rule-unnamed, convention-named, convention-unnamed, flag-named, flag-unnamed}
+use Rattle.crossing.specs.Laws.Calls.{named, unnamed, unit-named, unit-unnamed, rule-named, rule-unnamed, convention-named, convention-unnamed, flag-named, flag-unnamed}
 use borrow.Author.Needs.{needs}
 use Rattle.crossing.proofs.requests.request_of.Statement.{statement}
 use Rattle.crossing.proofs.requests.request_of.Tie as tie

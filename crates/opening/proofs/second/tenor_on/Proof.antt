@@ -2,7 +2,7 @@
 -- Assumes nothing.
 use mathlib.Core.Path.{_≡_, ap, _∙_}
 use lib.IntN.{natAbs}
-use Rattle.period.specs.Signed.{same32}
+use Rattle.period.specs.Laws.Signed.{same32}
 use Rattle.opening.proofs.Openers.{tenor-is}
 use borrow.Author.Needs.{needs}
 use Rattle.opening.proofs.second.tenor_on.Statement.{statement}

@@ -2,7 +2,7 @@
 -- Assumes nothing.
 use native.Mathlib.Omega.{arith}
 use denote.Ref.{now}
-use Rattle.request.specs.Places.{placed}
+use Rattle.request.specs.Inner.Places.{placed}
 use Rattle.request.proofs.AskWays.{kept-9, kept-10, kept, request-is}
 use Rattle.request.proofs.asking.request_at.Statement.{statement}
 use Rattle.request.proofs.asking.request_at.Tie as tie

@@ -2,7 +2,7 @@
 -- Assumes nothing.
 use denote.Ref.{now}
 use native.Mathlib.Omega.{arith}
-use Rattle.request.specs.Round.{fits, few}
+use Rattle.request.specs.Laws.Round.{fits, few}
 use Rattle.request.proofs.PutWays.{request-laid}
 use borrow.Author.Needs.{needs}
 use Rattle.request.proofs.writing.put_request.Statement.{statement}

@@ -2,7 +2,7 @@
 -- Assumes nothing.
 use native.Mathlib.Omega.{arith}
 use Rattle.date.specs.Date.{monthIndex}
-use Rattle.date.specs.Moves.{valid-at}
+use Rattle.date.specs.Laws.Moves.{valid-at}
 use Rattle.steps.proofs.Ways.{year-fits}
 use borrow.Author.Needs.{needs}
 use Rattle.steps.proofs.seeds.month_index.Statement.{statement}

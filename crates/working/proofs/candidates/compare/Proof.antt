@@ -6,11 +6,11 @@ use mathlib.Core.Logic.{⊎-elim}
 use Prim.Native.Nat.{ℕ}
 use denote.Ref.{now}
 use Rattle.refusal.specs.Answer.{given}
-use Rattle.date.specs.Made.{given-day}
+use Rattle.date.specs.Laws.Made.{given-day}
 use Rattle.calendar.specs.Open.{closedOk}
 use Rattle.calendar.specs.Adjust.{adjusted}
-use Rattle.calendar.specs.Near.{known-near}
-use Rattle.calendar.specs.Told.{placed-day, placed-refused}
+use Rattle.calendar.specs.Inner.Near.{known-near}
+use Rattle.calendar.specs.Laws.Told.{placed-day, placed-refused}
 use Rattle.working.specs.Turning.{Front}
 use Rattle.working.proofs.Turns.{compare-stop, compare-closed, compare-skip, compare-settle, compare-keep}
 use borrow.Author.Needs.{needs}

@@ -3,7 +3,7 @@ use Prim.Native.Nat.{suc, _-_, _≤_, _<_}
 use native.Mathlib.Omega.{arith}
 use lib.ListN.{length}
 use Rattle.date.specs.Date.{SPAN-LAST}
-use Rattle.steps.specs.Fewer.{turnKept}
+use Rattle.steps.specs.Fewer.Steps.{turnKept}
 use Rattle.steps.specs.Generate.{newest, lastTry, walk}
 use Rattle.working.specs.Part.{Begun, held}
 use borrow.Author.Needs.{needs}
@@ -13,7 +13,7 @@ use Rattle.working.proofs.walks.walk.Tie as tie
 use Rattle.working.proofs.walks.walk.Reads as reads
 use Rattle.working.proofs.walks.walk.Lts as lts
 use Rattle.working.proofs.candidates.try_candidate.Reads as try-candidate-reads
-use Rattle.calendar.specs.Always.{on-as}
+use Rattle.calendar.specs.Inner.Always.{on-as}
 use Rattle.calendar.proofs.search.convention_on.Reads as convention-on-reads
 use Rattle.working.proofs.lists.newest.Reads as newest-reads
 use Rattle.working.proofs.lists.put.Reads as put-reads
