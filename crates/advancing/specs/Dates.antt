@@ -9,7 +9,7 @@ use lib.IntN.{ℤ, natAbs, _+ℤ_}
 use borrow.Author.Tests.{leb-true}
 use Rattle.refusal.specs.Answer.{Answer, given, BOOK}
 use Rattle.refusal.specs.Laws.Answers.{need-given, holds, one-given}
-use Rattle.period.specs.Laws.Signed.{isNegative}
+use Rattle.period.specs.Period.{isNegative}
 use Rattle.period.specs.declared.Unit.{Unit}
 use Rattle.period.specs.declared.Unit.the-variants.{Days, Weeks, Months, Years}
 use Rattle.date.specs.declared.Fields.{Fields}

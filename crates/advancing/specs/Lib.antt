@@ -1,6 +1,6 @@
 pub mod Laws
-pub mod Dates
 pub mod Years
+pub mod Dates
 pub mod OpenDays
 pub mod Cases
 pub mod Needed

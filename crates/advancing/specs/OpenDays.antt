@@ -12,7 +12,7 @@ use lib.Signed.{leZ}
 use borrow.Author.Tests.{leb-true, le-leb}
 use Rattle.refusal.specs.Answer.{given, BOOK, CALENDAR, TENOR}
 use Rattle.refusal.specs.Laws.Answers.{need-given, holds, one-given}
-use Rattle.period.specs.Laws.Signed.{isNegative}
+use Rattle.period.specs.Period.{isNegative}
 use Rattle.period.specs.declared.Unit.the-variants.{Days}
 use Rattle.date.specs.Date.{inBook}
 use Rattle.date.specs.Laws.Moves.{book-le, book-from}
@@ -56,13 +56,13 @@ book-span day h =
     of-span day (record { low = omega (arith, book-from day h); high = omega (arith, book-le day h) })
 
 -- what the call tests before it goes
-record Asked (mask : ℕ) (closed : List ℕ) (a : ℤ) (day : ℕ) : Type 0 where
+record Tested (mask : ℕ) (closed : List ℕ) (a : ℤ) (day : ℕ) : Type 0 where
   book : inBook day ≡ true
   sound : calendarOk mask closed ≡ true
   size : natAbs a ≤ 366
 
 module _ (mask : ℕ) (closed : List ℕ) where
-  asked : (v : Convention) (e : Bool) (a : ℤ) (day new : ℕ) → advancedOf mask closed a Days v e day ≡ given new → Asked mask closed a day
+  asked : (v : Convention) (e : Bool) (a : ℤ) (day new : ℕ) → advancedOf mask closed a Days v e day ≡ given new → Tested mask closed a day
   unfolding advancedOf tenorOk longest
   asked v e a day new h =
       let p = need-given BOOK (inBook day) _ new h in
@@ -70,7 +70,7 @@ module _ (mask : ℕ) (closed : List ℕ) where
       let r = need-given TENOR (leb (natAbs a) 366) _ new (q .1) in
       record { book = p .0; sound = q .0; size = leb-true (natAbs a) 366 (r .0) }
 
-  as-steps : (v : Convention) (e : Bool) (a : ℤ) (day : ℕ) → Asked mask closed a day → advancedOf mask closed a Days v e day ≡ openSteps mask closed (isNegative a) (natAbs a) day
+  as-steps : (v : Convention) (e : Bool) (a : ℤ) (day : ℕ) → Tested mask closed a day → advancedOf mask closed a Days v e day ≡ openSteps mask closed (isNegative a) (natAbs a) day
   unfolding advancedOf advanced byUnit tenorOk longest
   as-steps v e a day g =
       sym

@@ -11,7 +11,7 @@ use borrow.Author.Tests.{leb-true, eqb-true, eqb-false, eq-eqb, ne-eqb}
 use Rattle.refusal.specs.Answer.{Answer, given, refused, need, then, BOOK, TENOR}
 use Rattle.refusal.specs.Laws.Answers.{holds, passed, failed, need-given, then-given, then-refused, then-stepped, never-both, one-given, both}
 use lib.IntN.{ℤ, natAbs}
-use Rattle.period.specs.Laws.Signed.{isNegative}
+use Rattle.period.specs.Period.{isNegative}
 use Rattle.period.specs.declared.Unit.{Unit}
 use Rattle.date.specs.declared.Date.{Date}
 use Rattle.date.specs.declared.Dated.{Dated}

@@ -9,7 +9,7 @@ ghost use Rattle.crossing.specs.Requests.{requestOf};
 ghost use Rattle.recorded.specs.Builds.{Reported};
 use crossing::answers;
 use crossing::requests;
-use crossing::requests::Asked;
+use crossing::requests::FromNumbers;
 use date::Date;
 
 // Builds a schedule: the dates into the start of `dates`, the flags of the periods between them (1 regular) into the start
@@ -98,7 +98,7 @@ pub extern "C" fn heronspan_coming(
         mask,
     );
     match request {
-        Asked::Is(q) => answers::of_coming(coming::after(q, closed, Date { day: asked })),
-        Asked::Refused(n) => answers::minus(n),
+        FromNumbers::Is(q) => answers::of_coming(coming::after(q, closed, Date { day: asked })),
+        FromNumbers::Refused(n) => answers::minus(n),
     }
 }

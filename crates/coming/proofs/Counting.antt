@@ -19,7 +19,7 @@ use Rattle.date.specs.Laws.Moves.{valid-at, year-at}
 use Rattle.steps.specs.declared.Pace.{Pace}
 use Rattle.steps.specs.declared.Seed.{Seed}
 use Rattle.steps.specs.Candidates.{isPast}
-use Rattle.plain.specs.Laws.Falling.{dayOr}
+use Rattle.plain.specs.Most.{dayOr}
 use Rattle.coming.specs.Laws.Counted.{apart, monthsApart, mostMonths, mostFrom, tenorsFrom, Booked, Counts}
 
 -- ---- by direction

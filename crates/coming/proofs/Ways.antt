@@ -21,7 +21,7 @@ use Rattle.date.specs.declared.Dated.{Dated}
 use Rattle.date.specs.declared.Dated.the-variants.{Day, Refused}
 use Rattle.date.specs.Civil.{pickN, fieldsOf}
 use Rattle.refusal.specs.Laws.Answers.{both, need-given, never-both, holds}
-use Rattle.period.specs.Laws.Signed.{isNegative}
+use Rattle.period.specs.Period.{isNegative}
 use Rattle.date.specs.Date.{dated, inBook, monthIndex}
 use Rattle.date.specs.Laws.Moves.{book-le}
 use Rattle.calendar.specs.Open.{calendarOk}
@@ -37,9 +37,9 @@ use Rattle.steps.specs.Table.{Row, numberOr, firstRow, anchorOk, datesOk, ancho
 use Rattle.steps.specs.Laws.Table.{answer-is-none}
 use Rattle.working.specs.Paces.{pace, pace-checked}
 use Rattle.outcomes.specs.Laws.Span.{since}
-use Rattle.plain.specs.Asked.{isStraight}
+use Rattle.plain.specs.PlainTests.{isStraight}
 use Rattle.plain.specs.Laws.Checks.{not-negative}
-use Rattle.plain.specs.Laws.Falling.{dayOr}
+use Rattle.plain.specs.Most.{dayOr}
 use Rattle.coming.specs.declared.Coming.{Coming}
 use Rattle.coming.specs.declared.Coming.the-variants as coming
 use Rattle.coming.specs.Coming.{Comes, begins, comes, none-comes, pickC, isDirect, isAnswered, askedRows, onOr, flagBy, comesBackward, comesForward, comesBetween, comesAfter, unlessRefused, comingOf, meant}

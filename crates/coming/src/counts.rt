@@ -3,7 +3,7 @@ ghost use mathlib.Core.Path.{_≡_};
 ghost use Prim.Native.Nat.{_+_, _-_, _*_, _/_};
 ghost use Rattle.date.specs.Date.{dated};
 ghost use Rattle.steps.specs.Candidates.{isPast};
-ghost use Rattle.plain.specs.Laws.Falling.{dayOr};
+ghost use Rattle.plain.specs.Most.{dayOr};
 ghost use Rattle.coming.specs.Laws.Counted.{apart, mostMonths, mostFrom, tenorsFrom, Counts};
 use date::Dated;
 use date::Fields;

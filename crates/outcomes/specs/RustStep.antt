@@ -29,7 +29,7 @@ use Rattle.steps.specs.Finish.{finish}
 use Rattle.steps.specs.Build.{Schedule, stepsOf, admitted, buildOf}
 use Rattle.outcomes.specs.Laws.Days.{days-apart}
 use Rattle.outcomes.specs.Laws.Searched.{adjusted-near}
-use Rattle.outcomes.specs.Laws.Generated.{passed}
+use Rattle.outcomes.specs.Laws.Generating.{passed}
 use Rattle.outcomes.specs.Grid.{Gives, weaker, IsTwentieth, Last, twentieth-number, twentieth-month, twentieth-le, in-month, shift, reached, previous-from, next-from}
 use Rattle.outcomes.specs.Laws.FirstDate.{Alike, Behind, Opens, both-gave, second-alike, forward-alike}
 

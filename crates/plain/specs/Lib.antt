@@ -1,8 +1,9 @@
 pub mod Listed
-pub mod Demand
-pub mod Asked
-pub mod Forward
+pub mod Most
+pub mod PlainTests
 pub mod Laws
+pub mod Demand
+pub mod Forward
 pub mod Agree
 pub mod AgreeExample
 pub mod Example

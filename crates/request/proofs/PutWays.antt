@@ -17,7 +17,8 @@ use mir.Syntax.{w32}
 use mir.Val.{SFits, toZ, ofZ}
 use Rattle.refusal.specs.Answer.{Answer, given, refused}
 use Rattle.refusal.specs.Laws.Answers.{fails, holds}
-use Rattle.period.specs.Laws.Signed.{isNegative, same32}
+use Rattle.period.specs.Period.{isNegative}
+use Rattle.period.specs.Laws.Signed.{same32}
 use Rattle.period.specs.declared.Period.{Period}
 use Rattle.steps.specs.declared.Request.{Request}
 use Rattle.steps.specs.Build.{over}

@@ -8,7 +8,7 @@ use native.Mathlib.Nat.{mul-add}
 use lib.Dec.{ltb}
 use lib.IntN.{ℤ, pos, negsuc, natAbs, _+ℤ_}
 use borrow.Author.Tests.{ltb-true, ltb-false}
-use Rattle.period.specs.Laws.Signed.{isNegative}
+use Rattle.period.specs.Period.{isNegative}
 use Rattle.date.specs.Date.{step}
 
 -- the third sign and size are those of the sum of the first two

@@ -21,13 +21,14 @@ use Rattle.outcomes.specs.Laws.Span.{le-or-lt}
 use Rattle.plain.specs.Listed.{one-list, at-in}
 use Rattle.plain.specs.Demand.{Plain, Passes, tenorLength, tenorsBefore, Owed, tenorCount, taken, MostOf, Most, Accepted}
 use Rattle.plain.specs.Laws.Chain.{ones, chain, chain-length}
-use Rattle.plain.specs.Laws.Falling.{dayOr, dueList, Falls, Generated}
+use Rattle.plain.specs.Most.{dayOr, mostBy}
+use Rattle.plain.specs.Laws.Falling.{dueList, Falls, GeneratedBack}
 use Rattle.plain.specs.Laws.Count.{line-later, counted}
 use Rattle.plain.specs.Laws.Tenor.{counts-are}
 use Rattle.plain.specs.Laws.Walked.{some-units, line, tenors-fall, generated}
 use Rattle.plain.specs.Laws.Proved.{owed-once, most-once}
 use Rattle.plain.specs.Laws.Shape.{not-after}
-use Rattle.plain.specs.Laws.Mosts.{mostBy, most-by}
+use Rattle.plain.specs.Laws.Mosts.{most-by}
 use Rattle.plain.specs.Laws.Formula.{count-is}
 use Rattle.outcomes.specs.NoLimit.{NoLimit}
 use Rattle.plain.specs.Laws.Lifted.{no-limit-back}
@@ -62,7 +63,7 @@ module _
     abbrev at : ℕ → ℕ
     at k = dayOr (tenorsBefore q k)
 
-    abbrev g : Generated e t 0 (tenorsBefore q) j (generate q closed 0)
+    abbrev g : GeneratedBack e t 0 (tenorsBefore q) j (generate q closed 0)
     g = generated q p closed dates flags c m w 0
 
     abbrev falls : Falls (tenorsBefore q) e t j

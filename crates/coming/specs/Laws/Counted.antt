@@ -18,9 +18,7 @@ use Rattle.steps.specs.Rules.{paceBy, paceOf}
 use Rattle.steps.specs.Candidates.{seedOf, candidateBy, candidate, isPast}
 use Rattle.plain.specs.Demand.{tenorLength, tenorsBefore, countOf, tenorCount}
 use Rattle.plain.specs.Forward.{tenorsAfter}
-use Rattle.plain.specs.Laws.Falling.{dayOr}
-use Rattle.plain.specs.Laws.Mosts.{monthsBetween, mostBy}
-use Rattle.plain.specs.Laws.MostOn.{mostOnBy}
+use Rattle.plain.specs.Most.{dayOr, monthsBetween, mostBy, mostOnBy}
 use Rattle.plain.specs.Laws.Tenor.{candidate-is}
 use Rattle.plain.specs.Laws.Added.{candidate-on}
 use Rattle.coming.specs.Coming.{Comes, comes, onOr, comesForward, flagBy, tenorsKept, comesBackward}

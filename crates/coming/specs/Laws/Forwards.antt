@@ -18,7 +18,7 @@ use Rattle.steps.specs.Build.{Schedule}
 use Rattle.outcomes.specs.Laws.Span.{le-or-lt}
 use Rattle.plain.specs.Listed.{one-list, at-in}
 use Rattle.plain.specs.Demand.{Passes, tenorLength, tenorCount}
-use Rattle.plain.specs.Laws.Falling.{dayOr}
+use Rattle.plain.specs.Most.{dayOr}
 use Rattle.plain.specs.Forward.{PlainForward, DueOn, effective, between, termination, tenorsAfter, LiesAfter, OwedOn, LastFlag, regular, irregular, added, MostAdded, MostOn, AcceptedOn}
 use Rattle.plain.specs.Laws.Rising.{Rises, GeneratedOn}
 use Rattle.plain.specs.Laws.Mirror.{Climb, counted-on}

@@ -16,7 +16,7 @@ use Rattle.steps.specs.Rules.{ruleNumber}
 use Rattle.steps.specs.Table.{Row, row, datesOk}
 use Rattle.steps.specs.Laws.Rows.{numbered, head-numbered, tail-numbered}
 use Rattle.steps.specs.Laws.Table.{NoneHolds, no-row, nor-row, FirstHolds}
-use Rattle.plain.specs.Asked.{isStraight}
+use Rattle.plain.specs.PlainTests.{isStraight}
 use Rattle.plain.specs.Laws.Straight.{straight-plain, straight-forward}
 use Rattle.plain.specs.Demand.{Plain, Passes}
 use Rattle.plain.specs.Forward.{PlainForward}

@@ -25,8 +25,8 @@ use Rattle.crossing.specs.declared.NamedConvention.the-variants as conve
 use Rattle.crossing.specs.declared.NamedFlag.{NamedFlag}
 use Rattle.crossing.specs.declared.NamedFlag.the-variants as flag-is
 use Rattle.steps.specs.declared.Request.{Request}
-use Rattle.crossing.specs.declared.requests.Asked.{Asked}
-use Rattle.crossing.specs.declared.requests.Asked.the-variants as asked-is
+use Rattle.crossing.specs.declared.requests.FromNumbers.{FromNumbers}
+use Rattle.crossing.specs.declared.requests.FromNumbers.the-variants as asked-is
 use Rattle.crossing.specs.Requests.{asked}
 use Rattle.crossing.specs.Answers.{oneNumber}
 use Rattle.crossing.specs.Names.{nameOf, Spelled}
@@ -111,7 +111,7 @@ module _ {m : NamedFlag} {x : Answer Bool} (p : namedFlag m ≡ x) where
   unfolding namedFlag
   flag-unnamed n e = sym p ∙ ap namedFlag e
 
-module _ {m : Asked} {x : Answer Request} (p : asked m ≡ x) where
+module _ {m : FromNumbers} {x : Answer Request} (p : asked m ≡ x) where
   pub request-named : (q : Request) → m ≡ asked-is.Is q → x ≡ given q
   unfolding asked
   request-named q e = sym p ∙ ap asked e

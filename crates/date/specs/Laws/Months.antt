@@ -41,19 +41,19 @@ day-at (l ∷ ls) (suc m) j h i =
     rw (le-ltb (l + sumTo ls m + j) l (omega arith), back) (day-at ls m j (omega arith) i)
 
 -- a day of a row has a place in it
-pub record Placed (xs : List ℕ) (j m d : ℕ) : Type 0 where
+pub record InRow (xs : List ℕ) (j m d : ℕ) : Type 0 where
   pub month : m < length xs
   pub day : d < getD xs m 0
   pub sum : sumTo xs m + d ≡ j
 
-placed-go : (l : ℕ) (ls : List ℕ) (j : ℕ) (t : Bool) → ltb j l ≡ t → (l ≤ j → Placed ls (j - l) (monthIn ls (j - l)) (dayIn ls (j - l))) → Placed (l ∷ ls) j (pickN t 0 (suc (monthIn ls (j - l)))) (pickN t j (dayIn ls (j - l)))
+placed-go : (l : ℕ) (ls : List ℕ) (j : ℕ) (t : Bool) → ltb j l ≡ t → (l ≤ j → InRow ls (j - l) (monthIn ls (j - l)) (dayIn ls (j - l))) → InRow (l ∷ ls) j (pickN t 0 (suc (monthIn ls (j - l)))) (pickN t j (dayIn ls (j - l)))
 unfolding sumTo
 placed-go l ls j true e f = record { month = omega arith; day = ltb-true j l e; sum = omega arith }
 placed-go l ls j false e f =
     let g = f (ltb-false j l e) in
     record { month = omega (arith, g .month); day = g .day; sum = omega (arith, g .sum, ltb-false j l e) }
 
-pub placed : (xs : List ℕ) (j : ℕ) → j < sumTo xs (length xs) → Placed xs j (monthIn xs j) (dayIn xs j)
+pub placed : (xs : List ℕ) (j : ℕ) → j < sumTo xs (length xs) → InRow xs j (monthIn xs j) (dayIn xs j)
 unfolding sumTo monthIn dayIn
 placed [] j h = omega arith
 placed (l ∷ ls) j h = placed-go l ls j (ltb j l) refl (λ g. placed ls (j - l) (omega arith))
@@ -124,7 +124,7 @@ unfolding sumTo rowOf
 year-sum true = refl
 year-sum false = refl
 
-pub place-ok : (l : Bool) (j : ℕ) → j < pickN l 366 365 → Placed (rowOf l) j (placeOf l j .month) (placeOf l j .day)
+pub place-ok : (l : Bool) (j : ℕ) → j < pickN l 366 365 → InRow (rowOf l) j (placeOf l j .month) (placeOf l j .day)
 unfolding placeOf
 place-ok l j h = placed (rowOf l) j (rw (year-sum l) h)
 

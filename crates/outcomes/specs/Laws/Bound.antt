@@ -13,7 +13,7 @@ use Rattle.steps.specs.Candidates.{Turn, past, skip, keep, seedOf, turnOf}
 use Rattle.steps.specs.Generate.{Lists, Walk, Opened, newest, put, onTurn, lastTry, walk, candidates, anchorOr, begun, backSeed, opened}
 use Rattle.outcomes.specs.Late.{Late, by-search, by-room, by-merge, Fine}
 use Rattle.outcomes.specs.Searches.{Searches}
-use Rattle.outcomes.specs.Laws.Generated.{passed, GoodWalk, begun-fine, back-loop-fine, opened-fine, forth-loop-fine, pace-fine}
+use Rattle.outcomes.specs.Laws.Generating.{passed, GoodWalk, begun-fine, back-loop-fine, opened-fine, forth-loop-fine, pace-fine}
 
 -- ---- any walk that does not end in 2 is the same with more candidates
 abbrev More : (Lists → Answer Walk) → (Lists → Answer Walk) → Type 0

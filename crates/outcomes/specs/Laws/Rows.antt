@@ -15,7 +15,7 @@ use Rattle.steps.specs.Build.{stepsOf, admitted, buildOf}
 use Rattle.outcomes.specs.Late.{Late, by-search, by-room, by-merge, Fine, Any, gives, steps}
 use Rattle.outcomes.specs.Searches.{Searches, for-convention, for-terminal, for-month-end}
 use Rattle.outcomes.specs.Laws.Finished.{finish-fine}
-use Rattle.outcomes.specs.Laws.Generated.{Passed, passed, generate-fine}
+use Rattle.outcomes.specs.Laws.Generating.{Passed, passed, generate-fine}
 use Rattle.outcomes.specs.NoLimit.{stepsIn, steps-cut}
 
 -- ---- a test that each number of a table passes is passed by that of the first row that holds

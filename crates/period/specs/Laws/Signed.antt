@@ -11,13 +11,7 @@ use mir.Syntax.{w32, w64}
 use mir.Val.{SFits, Fits, toZ, ofZ}
 use mir.Facts.{toZ-ofZ}
 use borrow.Author.Tests.{le-ltb}
-
-abbrev pub isNegative : ℤ → Bool
-isNegative (pos n) = false
-isNegative (negsuc n) = true
-
-abbrev pub isPositive : ℤ → Bool
-isPositive z = ltZ (pos 0) z
+use Rattle.period.specs.Period.{isNegative}
 
 pub same32 : (z : ℤ) → SFits w32 z → toZ w32 (ofZ w32 z) ≡ z
 same32 z s = toZ-ofZ {w = w32} {z = z} s

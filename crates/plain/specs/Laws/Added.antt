@@ -21,7 +21,7 @@ use Rattle.steps.specs.Rules.{paceBy}
 use Rattle.steps.specs.Candidates.{seedOf, candidateBy, candidate}
 use Rattle.outcomes.specs.Laws.Span.{InSpan, span-is, day-span, month-span, month-of, month-there, month-zero, since}
 use Rattle.plain.specs.Demand.{countedIn, countOf}
-use Rattle.plain.specs.Laws.Falling.{dayOr}
+use Rattle.plain.specs.Most.{dayOr}
 use Rattle.plain.specs.Laws.Mirror.{Climb}
 
 pub span-on : (e x : ℕ) (u : TimeUnit) (d : ℕ) → shifted e false x u ≡ given d → InSpan d

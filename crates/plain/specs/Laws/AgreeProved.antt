@@ -31,7 +31,8 @@ use Rattle.plain.specs.Demand as demand
 use Rattle.plain.specs.Forward.{under, PlainForward, OneOrMore, tenorsAfter, LastFlag, regular, irregular, added, MostOn, AcceptedOn}
 use Rattle.plain.specs.Agree.{Whole, InMonths, EarlyDay, SameDay, BothAgree, EvenDates, Evenly, TooMany, KeptEvenly, forward, backward, BothEvenly, AgreeExactly}
 use Rattle.plain.specs.Laws.Chain.{ones, chain, chain-length, chain-at}
-use Rattle.plain.specs.Laws.Falling.{dayOr, dueList}
+use Rattle.plain.specs.Most.{dayOr}
+use Rattle.plain.specs.Laws.Falling.{dueList}
 use Rattle.plain.specs.Laws.Rising.{one-more, no-rest, Rises, GeneratedOn}
 use Rattle.plain.specs.Laws.Added.{days-at, months-at, counts-on, climb-of}
 use Rattle.plain.specs.Laws.Tenor.{positive-size, some-count, counts-are}

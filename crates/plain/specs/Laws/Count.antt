@@ -8,7 +8,8 @@ use native.Mathlib.Omega.{arith}
 use Rattle.refusal.specs.Answer.{Answer, given}
 use Rattle.outcomes.specs.Laws.Span.{le-or-lt}
 use Rattle.plain.specs.Demand.{MostOf}
-use Rattle.plain.specs.Laws.Falling.{dayOr, Falls}
+use Rattle.plain.specs.Most.{dayOr}
+use Rattle.plain.specs.Laws.Falling.{Falls}
 
 -- what is asked of a count: none is no step, more are an earlier date, one tenor below the effective date there still are dates, and the book has
 -- fewer than 110,000 days

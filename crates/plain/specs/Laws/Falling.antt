@@ -20,13 +20,9 @@ use Rattle.steps.specs.Generate.{Walk, Made, nothing, newest, onto, put, putNew
 use Rattle.outcomes.specs.Laws.Span.{le-or-lt, InSpan}
 use Rattle.plain.specs.Listed.{_∈_, Ascending}
 use Rattle.plain.specs.Listed as listed
+use Rattle.plain.specs.Most.{dayOr}
 use Rattle.plain.specs.Laws.Chain.{ones, chain, chain-length, chain-first, in-chain, from-chain, chain-up, linked, put-fits, put-full, walk-fits, walk-full}
 use Rattle.plain.specs.Laws.Turns.{turn-keeps, turn-ends, new-same, new-put}
-
--- the date of an answer
-abbrev pub dayOr : Answer ℕ → ℕ
-dayOr (given d) = d
-dayOr (refused n) = 0
 
 -- d is the effective date, or after it and one of the candidates
 abbrev pub Due : ℕ → (ℕ → Answer ℕ) → ℕ → Type 0
@@ -49,10 +45,10 @@ unfoldable pub dueList : (ℕ → Answer ℕ) → ℕ → ℕ → List ℕ
 dueList cand e j = inFront (ltb e (dayOr (cand j))) e (chain (λ k. dayOr (cand k)) j)
 
 -- what is generated where the candidates tried are j + 1
-pub record Generated (e t room : ℕ) (cand : ℕ → Answer ℕ) (j : ℕ) (o : Answer Made) : Type 0 where
+pub record GeneratedBack (e t room : ℕ) (cand : ℕ → Answer ℕ) (j : ℕ) (o : Answer Made) : Type 0 where
   pub dates : List ℕ
   pub made : dates ≡ dueList cand e j
-  pub lists : listed.Lists (Due e cand) dates
+  pub lists : listed.ListsAll (Due e cand) dates
   pub flag : ℕ
   pub count : length dates + flag ≡ j + 2
   pub first-flag : ((flag ≡ 1) × ((k : ℕ) × (cand k ≡ given e))) ⊎ ((flag ≡ 0) × ((k : ℕ) → cand k ≡ given e → ⊥))
@@ -215,7 +211,7 @@ module _
     made-front q = rw (lt-ltb e (line j) q)
 
     -- the effective date is the last candidate kept
-    met : line j ≡ e → Generated e t room cand j built
+    met : line j ≡ e → GeneratedBack e t room cand j built
     met q = record {
       dates = chain line j;
       made = made-same q;
@@ -240,7 +236,7 @@ module _
         flags = own-flags j (length (chain line j)) some (omega (arith, chain-length line j))
 
     -- it is before the last candidate kept, and is put in front
-    unmet : e < line j → Generated e t room cand j built
+    unmet : e < line j → GeneratedBack e t room cand j built
     unmet q = record {
       dates = e ∷ chain line j;
       made = made-front q;
@@ -265,5 +261,5 @@ module _
         full : room < length (e ∷ chain line j) → built ≡ refused ROOM
         full h = ⊎-elim (λ (p : room ≤ j). over p) (λ (p : j < room). fits p ∙ last-full q (omega (arith, chain-length line j))) (le-or-lt room j)
 
-    pub falling : Generated e t room cand j built
+    pub falling : GeneratedBack e t room cand j built
     falling = ⊎-elim (λ (q : e ≡ line j). met (sym q)) (λ (q : e < line j). unmet q) (eq-or-lt-of-le (f .low))

@@ -12,13 +12,13 @@ use Rattle.steps.specs.Generate.{generate}
 use Rattle.steps.specs.Build.{Schedule, buildOf}
 use Rattle.plain.specs.Listed.{one-list}
 use Rattle.plain.specs.Demand.{Plain, Passes, tenorsBefore, Owed, FirstFlag, Flagged, tenorCount, Most, TooLong, Accepted, Kept}
-use Rattle.plain.specs.Laws.Falling.{Generated}
+use Rattle.plain.specs.Laws.Falling.{GeneratedBack}
 use Rattle.plain.specs.Laws.Walked.{owedList, generated}
 use Rattle.plain.specs.Laws.Proved.{first-is, demand-3}
 use Rattle.plain.specs.Laws.Settled.{same-first}
 
 module _ (q : Request) (closed : List ℕ) (dates flags : ℕ) (p : Plain q) (c : Passes q closed dates flags) (m : ℕ) (w : Most q m) where
-  abbrev g : Generated (q .effective .day) (q .termination .day) (min dates 4096) (tenorsBefore q) (m / tenorCount q) (generate q closed (min dates 4096))
+  abbrev g : GeneratedBack (q .effective .day) (q .termination .day) (min dates 4096) (tenorsBefore q) (m / tenorCount q) (generate q closed (min dates 4096))
   g = generated q p closed dates flags c m w (min dates 4096)
 
   pub owed-list : Owed q (owedList q m)

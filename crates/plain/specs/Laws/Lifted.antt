@@ -16,7 +16,7 @@ use Rattle.outcomes.specs.NoLimit.{stepsIn, NoLimit, no-limit-in}
 use Rattle.outcomes.specs.Laws.Span.{le-or-lt}
 use Rattle.plain.specs.Listed.{one-list}
 use Rattle.plain.specs.Demand.{Plain, Passes, tenorsBefore, LiesSo, Owed, FirstFlag, regular, irregular, tenorCount, Most, Accepted}
-use Rattle.plain.specs.Laws.Falling.{Generated}
+use Rattle.plain.specs.Laws.Falling.{GeneratedBack}
 use Rattle.plain.specs.Laws.Finished.{finished-same}
 use Rattle.plain.specs.Laws.Walked.{rule-is, generated}
 use Rattle.plain.specs.Laws.Proved.{owed-span}
@@ -26,7 +26,7 @@ pub record KeptIn (q : Request) (room : ℕ) (ds : List ℕ) (m : ℕ) (o : Answ
   pub accepted-else : length ds ≤ room → (s : Schedule) × (o ≡ given s) × Accepted q ds m s
 
 module _ (q : Request) (closed : List ℕ) (dates flags : ℕ) (p : Plain q) (c : Passes q closed dates flags) (m : ℕ) (w : Most q m) (room : ℕ) where
-  abbrev g : Generated (q .effective .day) (q .termination .day) room (tenorsBefore q) (m / tenorCount q) (generate q closed room)
+  abbrev g : GeneratedBack (q .effective .day) (q .termination .day) room (tenorsBefore q) (m / tenorCount q) (generate q closed room)
   g = generated q p closed dates flags c m w room
 
   abbrev schedule : Schedule

@@ -9,7 +9,8 @@ use Rattle.refusal.specs.Answer.{Answer, given, refused}
 use Rattle.refusal.specs.Laws.Answers.{never-both}
 use Rattle.date.specs.Date.{SPAN-LAST}
 use Rattle.plain.specs.Demand.{MostOf}
-use Rattle.plain.specs.Laws.Falling.{dayOr, Falls}
+use Rattle.plain.specs.Most.{dayOr}
+use Rattle.plain.specs.Laws.Falling.{Falls}
 use Rattle.plain.specs.Forward.{MostAdded}
 use Rattle.plain.specs.Laws.Rising.{Rises}
 use Rattle.plain.specs.Laws.Count.{Line, some-most, one-most, counted}

@@ -18,16 +18,8 @@ use Rattle.imm.specs.Laws.Order.{month-le}
 use Rattle.outcomes.specs.Laws.Span.{le-or-lt, since}
 use Rattle.plain.specs.Demand.{countedIn}
 use Rattle.plain.specs.Forward.{MostAdded}
-use Rattle.plain.specs.Laws.Falling.{dayOr}
-use Rattle.plain.specs.Laws.Mosts.{monthsBetween}
+use Rattle.plain.specs.Most.{dayOr, monthsBetween, mostOnBy}
 use Rattle.plain.specs.Laws.Added.{span-on, days-at, days-are, months-at, months-are, months-zero}
-
--- the days between, or the months between, one less where the day of that month comes out after x
-unfoldable pub mostOnBy : TimeUnit → ℕ → ℕ → ℕ
-mostOnBy Days e x = x - e
-mostOnBy Weeks e x = x - e
-mostOnBy Months e x = pickN (ltb x (dayOr (shifted e false (monthsBetween e x) Months))) (monthsBetween e x - 1) (monthsBetween e x)
-mostOnBy Years e x = pickN (ltb x (dayOr (shifted e false (monthsBetween e x) Months))) (monthsBetween e x - 1) (monthsBetween e x)
 
 module _ (e x : ℕ) (from : inBook e ≡ true) (order : e ≤ x) (to : inBook x ≡ true) where
   by-days : MostAdded (λ y. shifted e false y Days) x (x - e)

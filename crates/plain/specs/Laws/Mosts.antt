@@ -19,7 +19,7 @@ use Rattle.imm.specs.Laws.Order.{month-le}
 use Rattle.steps.specs.declared.Request.{Request}
 use Rattle.outcomes.specs.Laws.Span.{le-or-lt, since}
 use Rattle.plain.specs.Demand.{Plain, Passes, countedIn, tenorCount, taken, MostOf, Most}
-use Rattle.plain.specs.Laws.Falling.{dayOr}
+use Rattle.plain.specs.Most.{dayOr, monthsBetween, mostBy}
 use Rattle.plain.specs.Laws.Count.{brink, passes}
 use Rattle.plain.specs.Laws.Units.{span-of, days-are, days-line, months-at, months-are, months-zero, months-line}
 use Rattle.plain.specs.Laws.Walked.{some-units, line}
@@ -39,16 +39,6 @@ module _ (q : Request) (closed : List ℕ) (dates flags : ℕ) (p : Plain q) (c 
     not-passing = i;
     no-more = λ x z g o. brink (taken q) (q .effective .day) (q .termination .day) (tenorCount q) (some-units q p) (le-of-lt (p .order)) (line q p closed dates flags c) m d′ x z h′ i′ g o;
   }
-
--- ---- the most by a sum: the days between, or the months between, one less where the day of the effective date's month comes out before it
-unfoldable pub monthsBetween : ℕ → ℕ → ℕ
-monthsBetween e t = monthIndex t - monthIndex e
-
-unfoldable pub mostBy : TimeUnit → ℕ → ℕ → ℕ
-mostBy Days e t = t - e
-mostBy Weeks e t = t - e
-mostBy Months e t = pickN (ltb (dayOr (shifted t true (monthsBetween e t) Months)) e) (monthsBetween e t - 1) (monthsBetween e t)
-mostBy Years e t = pickN (ltb (dayOr (shifted t true (monthsBetween e t) Months)) e) (monthsBetween e t - 1) (monthsBetween e t)
 
 module _ (e t : ℕ) (from : inBook e ≡ true) (order : e ≤ t) (to : inBook t ≡ true) where
   by-days : MostOf (λ x. shifted t true x Days) e (t - e)

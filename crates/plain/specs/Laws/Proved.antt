@@ -16,7 +16,7 @@ use Rattle.steps.specs.Build.{Schedule, stepsOf, admitted, buildOf}
 use Rattle.outcomes.specs.Laws.Span.{le-or-lt, InSpan}
 use Rattle.plain.specs.Listed.{one-list}
 use Rattle.plain.specs.Demand.{Plain, Passes, tenorLength, tenorsBefore, LiesSo, OwedDate, FirstFlag, regular, irregular, tenorCount, Most, TooLong, Accepted, Kept, Demand3, OwedOnce, MostOnce}
-use Rattle.plain.specs.Laws.Falling.{Generated}
+use Rattle.plain.specs.Laws.Falling.{GeneratedBack}
 use Rattle.plain.specs.Laws.Units.{span-of}
 use Rattle.plain.specs.Laws.Finished.{finished-same}
 use Rattle.plain.specs.Laws.Walked.{rule-is, generated, most-is, most-only}
@@ -39,7 +39,7 @@ module _ (q : Request) (closed : List ℕ) (dates flags : ℕ) (p : Plain q) (c 
   owed-span d (inr o) = span-of (q .termination .day) (o .1 .0 * tenorLength q) (q .tenor .unit) d (o .1 .1)
 
   module _ (m : ℕ) (w : Most q m) where
-    abbrev g : Generated (q .effective .day) (q .termination .day) (min dates 4096) (tenorsBefore q) (m / tenorCount q) (generate q closed (min dates 4096))
+    abbrev g : GeneratedBack (q .effective .day) (q .termination .day) (min dates 4096) (tenorsBefore q) (m / tenorCount q) (generate q closed (min dates 4096))
     g = generated q p closed dates flags c m w (min dates 4096)
 
     abbrev schedule : Schedule

@@ -21,7 +21,7 @@ use Rattle.plain.specs.Listed.{_∈_, Ascending}
 use Rattle.plain.specs.Listed as listed
 use Rattle.plain.specs.Laws.Chain.{ones, chain, chain-length, chain-first, in-chain, from-chain, linked, put-fits, put-full, walk-fits, walk-full}
 use Rattle.plain.specs.Laws.Turns.{stays, new-same, new-put}
-use Rattle.plain.specs.Laws.Falling.{dayOr}
+use Rattle.plain.specs.Most.{dayOr}
 use Rattle.plain.specs.Forward.{OneOrMore, DueOn, effective, between, termination}
 
 -- ---- a list turned round: what it has in it, its order, its length
@@ -97,7 +97,7 @@ fromEffective mask closed pace seed room e t =
 -- what is generated where the candidates tried are j + 1
 pub record GeneratedOn (e t room : ℕ) (cand : ℕ → Answer ℕ) (j : ℕ) (o : Answer Made) : Type 0 where
   pub dates : List ℕ
-  pub lists : listed.Lists (DueOn cand e t) dates
+  pub lists : listed.ListsAll (DueOn cand e t) dates
   pub places : (i : ℕ) → i ≤ j → getD dates i 0 ≡ dayOr (cand i)
   pub ends : getD dates (length dates - 1) 0 ≡ t
   pub flag : ℕ

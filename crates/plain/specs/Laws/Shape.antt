@@ -12,7 +12,8 @@ use Rattle.steps.specs.declared.Request.{Request}
 use Rattle.outcomes.specs.Laws.Span.{le-or-lt}
 use Rattle.plain.specs.Listed.{_∈_, Ascending, ascending-at, at-in}
 use Rattle.plain.specs.Demand.{Plain, Passes, tenorsBefore, OwedDate, Owed, Flagged, tenorCount, Most}
-use Rattle.plain.specs.Laws.Falling.{dayOr, Falls}
+use Rattle.plain.specs.Most.{dayOr}
+use Rattle.plain.specs.Laws.Falling.{Falls}
 use Rattle.plain.specs.Laws.Walked.{most-is, tenors-fall}
 
 -- ---- the least and the greatest of an ascending list

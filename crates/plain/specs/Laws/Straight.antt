@@ -9,8 +9,8 @@ use Rattle.calendar.specs.declared.Convention.{Convention}
 use Rattle.calendar.specs.declared.Convention.the-variants.{Unadjusted, Following, ModifiedFollowing, Preceding, ModifiedPreceding}
 use Rattle.steps.specs.declared.Rule.the-variants.{Backward, Forward}
 use Rattle.steps.specs.declared.Request.{Request}
-use Rattle.period.specs.Laws.Signed.{isPositive}
-use Rattle.plain.specs.Asked.{isUnadjusted, isStraight}
+use Rattle.period.specs.Period.{isPositive}
+use Rattle.plain.specs.PlainTests.{isUnadjusted, isStraight}
 use Rattle.plain.specs.Demand.{Plain}
 use Rattle.plain.specs.Forward.{PlainForward}
 

@@ -15,7 +15,7 @@ use Rattle.date.specs.Laws.Moves.{span-in, book-from, book-le}
 use Rattle.date.specs.Laws.Order.{more-months-earlier}
 use Rattle.imm.specs.Laws.Order.{month-le}
 use Rattle.outcomes.specs.Laws.Span.{InSpan, span-is, day-span, month-span, month-of, month-there, month-zero, since}
-use Rattle.plain.specs.Laws.Falling.{dayOr}
+use Rattle.plain.specs.Most.{dayOr}
 use Rattle.plain.specs.Laws.Count.{Line}
 
 pub span-of : (t x : ℕ) (u : TimeUnit) (d : ℕ) → shifted t true x u ≡ given d → InSpan d

@@ -18,7 +18,7 @@ use Rattle.steps.specs.Table.{isGiven}
 use Rattle.steps.specs.Candidates.{seedOf, candidate}
 use Rattle.steps.specs.Generate.{Lists, nothing, put, lastTry, candidates, anchorOr, putAnchor, putPenultimate, begun, ended, backwardEnd, backwardFrom, backward, generateBy, generate}
 use Rattle.plain.specs.Demand.{Plain, Passes, tenorLength, tenorsBefore, tenorCount, taken, Most}
-use Rattle.plain.specs.Laws.Falling.{dueList, fromTermination, Falls, Generated, falling}
+use Rattle.plain.specs.Laws.Falling.{dueList, fromTermination, Falls, GeneratedBack, falling}
 use Rattle.plain.specs.Laws.Count.{Line, some-most, one-most, counted}
 use Rattle.plain.specs.Laws.Tenor.{positive-size, candidate-is, counts-are, some-count, line-of}
 
@@ -84,10 +84,10 @@ module _ (q : Request) (p : Plain q) where
       few = omega (arith, div-le-self m (tenorCount q), line .few m (w .day) (w .can-be-taken) (w .not-passing))
 
       -- what is generated, by whole tenors before termination
-      pub generated : (room : ℕ) → Generated (q .effective .day) (q .termination .day) room (tenorsBefore q) (m / tenorCount q) (generate q closed room)
+      pub generated : (room : ℕ) → GeneratedBack (q .effective .day) (q .termination .day) room (tenorsBefore q) (m / tenorCount q) (generate q closed room)
       generated room =
           rw (generate-is closed room)
-          (subst (λ (f : ℕ → Answer ℕ). Generated (q .effective .day) (q .termination .day) room f (m / tenorCount q) (fromTermination (q .mask) closed pace seed room (q .effective .day) (q .termination .day))) (fun-ext (λ k. tenors-are k))
+          (subst (λ (f : ℕ → Answer ℕ). GeneratedBack (q .effective .day) (q .termination .day) room f (m / tenorCount q) (fromTermination (q .mask) closed pace seed room (q .effective .day) (q .termination .day))) (fun-ext (λ k. tenors-are k))
           (falling (q .mask) closed pace seed room (q .effective .day) (q .termination .day) (m / tenorCount q) by-candidates (p .order) few (omega (arith, book-from (q .effective .day) (c .effective-in-book))) (omega (arith, book-le (q .termination .day) (c .termination-in-book)))))
         where
           by-candidates : Falls (candidate true pace seed) (q .effective .day) (q .termination .day) (m / tenorCount q)

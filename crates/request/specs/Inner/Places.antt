@@ -48,7 +48,7 @@ pub record Lies (bytes : List ℕ) (place tag : ℕ) : Type 0 where
   pub ok : bodyOk tag (take (twoAt bytes (place - 2)) (drop place bytes)) ≡ true
 
 -- each place is 0, or one where a body of its tag lies
-pub record Kept (bytes places : List ℕ) : Type 0 where
+pub record PlacesKept (bytes places : List ℕ) : Type 0 where
   pub twelve : length places ≡ 12
   pub lies : (tag : ℕ) → (getD places tag 0 ≡ 0 → ⊥) → Lies bytes (getD places tag 0) tag
 
@@ -77,7 +77,7 @@ pub record Found (bytes places : List ℕ) : Type 0 where
   pub fields : List Field
   pub same : fieldsFrom (suc (length bytes)) [] bytes ≡ given fields
   pub bodies : bodyOr fields ≡ placed bytes places
-  pub kept : Kept bytes places
+  pub kept : PlacesKept bytes places
 
 unfoldable pub reads : List ℕ → Bool → List ℕ → Type 0
 reads bytes true places = Found bytes places

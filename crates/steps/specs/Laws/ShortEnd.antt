@@ -15,7 +15,7 @@ use Rattle.refusal.specs.Answer.{Answer, SHORTEND}
 use Rattle.refusal.specs.Laws.Answers.{both}
 use Rattle.period.specs.declared.Unit.{Unit as TimeUnit}
 use Rattle.period.specs.declared.Unit.the-variants.{Days, Weeks, Months, Years}
-use Rattle.period.specs.Laws.Signed.{isNegative, isPositive}
+use Rattle.period.specs.Period.{isNegative, isPositive}
 use Rattle.steps.specs.declared.Rule.{Rule}
 use Rattle.steps.specs.declared.Rule.the-variants.{Zero}
 use Rattle.steps.specs.declared.Request.{Request}
@@ -23,7 +23,7 @@ use Rattle.steps.specs.Rules.{ruleNumber, oneOf, isZero, isNone, ruleUnd
 use Rattle.steps.specs.Laws.Rules.{only}
 use Rattle.steps.specs.Table.{Row, row, numberOr, firstRow, inDays, shortEnd, anchorRows, firstRows, lastRows, rowsUnder, inputRows}
 use Rattle.steps.specs.Laws.Rows.{numbered, row-holds, rows-passed}
-use Rattle.steps.specs.Laws.Table.{Accepted, accepted}
+use Rattle.steps.specs.Laws.Table.{PassedChecks, accepted}
 use Rattle.steps.specs.Build.{Schedule, stepsOf, admitted, buildOf}
 
 -- ---- a row behind any others, of which none has its number
@@ -185,7 +185,7 @@ module _ (q : Request) (closed : List ℕ) (dates flags : ℕ) where
       let a = accepted q closed dates flags e in
       by a (fails-of (q .monthend) (isPositive (q .tenor .length)) (inDays (q .tenor .unit)) (isZero (ruleInForce q)) m (a .not-short))
     where
-      by : Accepted q closed dates flags → (isPositive (q .tenor .length) ≡ false) ⊎ ((inDays (q .tenor .unit) ≡ false) ⊎ (isZero (ruleInForce q) ≡ true)) → (ruleInForce q ≡ Zero) ⊎ ((q .tenor .unit ≡ Months) ⊎ (q .tenor .unit ≡ Years))
+      by : PassedChecks q closed dates flags → (isPositive (q .tenor .length) ≡ false) ⊎ ((inDays (q .tenor .unit) ≡ false) ⊎ (isZero (ruleInForce q) ≡ true)) → (ruleInForce q ≡ Zero) ⊎ ((q .tenor .unit ≡ Months) ⊎ (q .tenor .unit ≡ Years))
       by a (inl p) = inl (forced q (some-none (q .tenor .length) (a .not-negative) p))
       by a (inr (inl d)) = inr (in-months (q .tenor .unit) d)
       by a (inr (inr z)) = inl (only (ruleInForce q) Zero z)

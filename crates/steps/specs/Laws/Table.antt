@@ -12,7 +12,7 @@ use borrow.Author.Tests.{eqb-true, not-false}
 use Rattle.refusal.specs.Answer.{UNEVEN, BOOK, CALENDAR, NEGATIVE, TENOR, FIRST-DATE, FIRST-NOT-IMM, FIRST-WRONG-RULE, LAST-DATE, LAST-NOT-IMM, LAST-WRONG-RULE, MONTHEND, SHORTEND}
 use Rattle.refusal.specs.Refusals.{pick}
 use Rattle.refusal.specs.Laws.Answers.{both}
-use Rattle.period.specs.Laws.Signed.{isNegative}
+use Rattle.period.specs.Period.{isNegative}
 use Rattle.calendar.specs.Open.{closedOk, calendarOk}
 use Rattle.calendar.specs.Calendar.{tenorOk}
 use Rattle.steps.specs.declared.Request.{Request}
@@ -113,7 +113,7 @@ module _ (q : Request) (closed : List ℕ) (dates flags : ℕ) where
   input-numbered = refl
 
 -- ---- what the steps may build on
-pub record Accepted (q : Request) (closed : List ℕ) (dates flags : ℕ) : Type 0 where
+pub record PassedChecks (q : Request) (closed : List ℕ) (dates flags : ℕ) : Type 0 where
   pub even : dates ≡ flags
   pub dates-hold : datesOk q ≡ true
   pub calendar-holds : calendarOk (q .mask) closed ≡ true
@@ -133,7 +133,7 @@ pub calendar-closed : (mask : ℕ) (closed : List ℕ) → calendarOk mask close
 unfolding calendarOk
 calendar-closed mask closed e = both (not (eqb (mask % 128) 127)) (closedOk closed) e .1
 
-pub accepted : (q : Request) (closed : List ℕ) (dates flags : ℕ) → firstRow (inputRows q closed dates flags) ≡ 0 → Accepted q closed dates flags
+pub accepted : (q : Request) (closed : List ℕ) (dates flags : ℕ) → firstRow (inputRows q closed dates flags) ≡ 0 → PassedChecks q closed dates flags
 unfolding inputRows rowsUnder firstRows lastRows anchorRows holdsIn pick
 accepted q closed dates flags e =
     let no = none-holds (inputRows q closed dates flags) (input-numbered q closed dates flags) e in

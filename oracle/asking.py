@@ -1,8 +1,8 @@
 #!/usr/bin/env python3
 """Writes questions for target/oracle/oracle and target/oracle/ours, one a line.
 
-    oracle/requests.py random SEED COUNT [KIND ..]     COUNT questions of the kinds named, or of every kind of the Rust's
-    oracle/requests.py systematic [KIND ..]            every day, month and code; a grid of builds
+    oracle/asking.py random SEED COUNT [KIND ..]       COUNT questions of the kinds named, or of every kind of the Rust's
+    oracle/asking.py systematic [KIND ..]              every day, month and code; a grid of builds
 
 The same seed gives the same questions.
 """

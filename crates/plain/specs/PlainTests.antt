@@ -2,7 +2,7 @@
 -- Assumes nothing.
 use mathlib.Core.Bool.{Bool, true, false, not, _&&_}
 use lib.Dec.{eqb, ltb}
-use Rattle.period.specs.Laws.Signed.{isPositive}
+use Rattle.period.specs.Period.{isPositive}
 use Rattle.calendar.specs.declared.Convention.{Convention}
 use Rattle.calendar.specs.declared.Convention.the-variants.{Unadjusted, Following, ModifiedFollowing, Preceding, ModifiedPreceding}
 use Rattle.steps.specs.declared.Request.{Request}

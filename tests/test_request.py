@@ -9,7 +9,7 @@ import tempfile
 import unittest
 
 sys.dont_write_bytecode = True
-TOOL = os.path.join(os.path.dirname(os.path.abspath(__file__)), "request")
+TOOL = os.path.join(os.path.dirname(os.path.dirname(os.path.abspath(__file__))), "tools", "request")
 LOADER = importlib.machinery.SourceFileLoader("request", TOOL)
 request = importlib.util.module_from_spec(importlib.util.spec_from_loader("request", LOADER))
 LOADER.exec_module(request)
