@@ -1,4 +1,5 @@
-// Schedules, from a request in numbers.
+// Schedules, from a request in numbers. C hands a request over field by field, so that its functions here have more than eight
+// parameters.
 ghost use mathlib.Core.Path.{_≡_};
 ghost use Rattle.refusal.specs.Answer.{then};
 ghost use Rattle.coming.specs.Coming.{comingOf};

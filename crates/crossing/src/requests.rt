@@ -14,7 +14,7 @@ pub enum FromNumbers {
     Refused(u8),
 }
 
-// Length and unit of the tenor, the convention of the last date and the anchors among them.
+// Length and unit of the tenor, the convention of the last date and the anchors among them: the eleven numbers that C hands over.
 pub fn request_of(
     effective: u32,
     termination: u32,

@@ -56,30 +56,30 @@ module _ (settled : Bool) (mask : ℕ) (closed : List ℕ) (convention : Convent
     compare-closed n e = record { says = then-given _ held _ _ known (then-refused _ n _ e); learnt = tt }
 
     module _ (b : ℕ) (near : Near) (t : adjusted mask closed convention day ≡ given b) (month : OneMonth (near .from) (near .to)) where
-      pub compare-skip : held ≡ b → Compared mask closed convention newest (unlessPastKept settled false mask closed convention newest day) (Skip held near)
+      pub compare-skip : held ≡ b → Compared mask closed convention newest (unlessPastKept settled false mask closed convention newest day) (Skip (record { newest = newest; front = held; near = near }))
       unfolding unlessPastKept told Learnt unlessSame
       compare-skip e =
           record {
             says = then-given _ held _ _ known (then-given _ b _ _ t (rw (eq-eqb held b e) refl));
-            learnt = (front-from mask closed convention newest held known, month);
+            learnt = (record { front = front-from mask closed convention newest held known; month = month }, refl);
           }
 
       module _ (e : held ≡ b → ⊥) where
-        pub compare-keep : settled ≡ false → Compared mask closed convention newest (unlessPastKept settled false mask closed convention newest day) (Keep day b near)
+        pub compare-keep : settled ≡ false → Compared mask closed convention newest (unlessPastKept settled false mask closed convention newest day) (Keep (record { newest = day; front = b; near = near }))
         unfolding unlessPastKept told Learnt unlessSame
         compare-keep f =
             record {
               says = then-given _ held _ _ known (then-given _ b _ _ t (rw (ne-eqb held b e, f) refl));
-              learnt = (front-from mask closed convention day b t, month);
+              learnt = record { front = front-from mask closed convention day b t; month = month };
             }
 
         -- the date kept is adjusted already
-        pub compare-settle : settled ≡ true → Compared mask closed convention newest (unlessPastKept settled false mask closed convention newest day) (Keep b b near)
+        pub compare-settle : settled ≡ true → Compared mask closed convention newest (unlessPastKept settled false mask closed convention newest day) (Keep (record { newest = b; front = b; near = near }))
         unfolding unlessPastKept told Learnt unlessSame
         compare-settle f =
             record {
               says = then-given _ held _ _ known (then-given _ b _ _ t (rw (ne-eqb held b e, f) refl));
-              learnt = (front-from mask closed convention b b (adjust-again _ convention day b t), month);
+              learnt = record { front = front-from mask closed convention b b (adjust-again _ convention day b t); month = month };
             }
 
 -- ---- the k-th candidate

@@ -45,12 +45,25 @@ by-tests true false c h = absurd (impossible 0 h)
 by-tests false b c h = absurd (impossible 0 h)
 
 -- lists that belong together are lent as the last steps want them, and the other way round
-pub lent-of : (work marks dates flags : List ℕ) → 0 ≡ lentRefusal (length work) (length marks) (length dates) (length flags) → Lent work marks dates flags
-unfolding lentRefusal
-lent-of work marks dates flags h =
-    let t = by-tests (eqb (length dates) (length flags)) (eqb (length work) (length marks + 1)) (leb (length work) (min (length dates) 4096)) h in
-    let l : length work ≤ min (length dates) 4096 = leb-true _ _ (t .2) in
-    record { between = eqb-true _ _ (t .1); most = omega arith; fits = omega arith; even = eqb-true _ _ (t .0) }
+module _ (work marks dates flags number : ℕ) (p : number ≡ lentRefusal work marks dates flags) (z : number ≡ 0) where
+  tests : (eqb dates flags ≡ true) × (eqb work (marks + 1) ≡ true) × (leb work (min dates 4096) ≡ true)
+  unfolding lentRefusal
+  tests = by-tests (eqb dates flags) (eqb work (marks + 1)) (leb work (min dates 4096)) (sym z ∙ p)
+
+  pub lent-between : work ≡ marks + 1
+  lent-between = eqb-true _ _ (tests .1)
+
+  lent-few : work ≤ min dates 4096
+  lent-few = leb-true _ _ (tests .2)
+
+  lent-even : dates ≡ flags
+  lent-even = eqb-true _ _ (tests .0)
+
+pub lent-of : (n m number : ℕ) (work marks dates flags : List ℕ) → number ≡ lentRefusal n m (length dates) (length flags) → number ≡ 0 → length work ≡ n → length marks ≡ m → Lent work marks dates flags
+lent-of n m number work marks dates flags p z e f =
+    let a = lent-between n m (length dates) (length flags) number p z in
+    let b = lent-few n m (length dates) (length flags) number p z in
+    record { between = omega arith; most = omega arith; fits = omega arith; even = lent-even n m (length dates) (length flags) number p z }
 
 pub lent-fits : {work marks dates flags : List ℕ} → Lent work marks dates flags → 0 ≡ lentRefusal (length work) (length marks) (length dates) (length flags)
 lent-fits l = let m = l .most in let f = l .fits in room-for _ _ _ _ (l .even) (l .between) (omega arith)

@@ -28,9 +28,9 @@ same-length-3 c = search needs
 
 returns : tie.Need-returns
 returns c =
-    let built = c .before .before .before .before .before .before in
-    let request = built .before .before .before .before in
-    let start = request .before .before .before .before .before in
+    let built : tie.After-build = search in
+    let request : tie.After-request-of = search in
+    let start : tie.Start = search in
     reported-as _ _ (built .build .ok)
     (same-count (λ z. requestOf (start .args .effective) (start .args .termination) z (start .args .unit) (start .args .rule) (start .args .convention) (start .args .terminal) (start .args .monthend) (start .args .first) (start .args .penultimate) (start .args .mask)) _ _ (start .fits .tenor) (request .request-of .ensures))
     (built .build .ensures)

@@ -19,7 +19,10 @@ advance-requires : tie.Need-advance-requires
 advance-requires c κs = search needs
 
 returns : tie.Need-returns
-returns c = λ ok. c .advance .ensures ok ∙ tenor-is _ _ _ _ (c .before .size .ensures ∙ ap natAbs (same32 (c .before .before .before .before .before .args .q .tenor .length) (record { sfits = c .before .before .struct-told .given .0 .1 })))
+returns c =
+    let struct-told : tie.After-struct-told = search in
+    let start : tie.Start = search in
+    λ ok. c .advance .ensures ok ∙ tenor-is _ _ _ _ (c .before .size .ensures ∙ ap natAbs (same32 (start .args .q .tenor .length) (record { sfits = struct-told .struct-told .given .0 .1 })))
 
 pub tenor-on-spec : {M : Type 1} → statement M
 tenor-on-spec = tie.close (tie.spec size-requires advance-requires returns)
