@@ -36,8 +36,8 @@ def constants(rows):
 
 
 def code(rows):
-    table = "".join(f'    Row({name}, {len(name)}, *b"{name:{WIDTH}}"),\n' for _, name, _ in rows)
-    return f"pub const ROWS: [Row; {len(rows)}] = [\n{table}];\n"
+    table = "".join(f'    NameRow({name}, {len(name)}, *b"{name:{WIDTH}}"),\n' for _, name, _ in rows)
+    return f"pub const ROWS: [NameRow; {len(rows)}] = [\n{table}];\n"
 
 
 def header(rows):

@@ -84,6 +84,12 @@ def shown(clause):
     return re.sub(r"\(now \((\w+) \.(entry|exit)\)\)|now \((\w+) \.(entry|exit)\)", lambda m: f"({m[1] or m[3]} .{m[2] or m[4]})", clause)
 
 
+def stepped():
+    """The names of promises that are a step's, which holds under its premise."""
+    texts = [open(path).read() for path in glob.glob(os.path.join(ROOT, "crates", "*", "specs", "**", "*.antt"), recursive=True)]
+    return {"Step"} | {name for text in texts for name in re.findall(r"^abbrev pub (\w+) :.*\n\1 .*=\s+Step ", text, re.M)}
+
+
 def excepted():
     """What docs/EXCEPTIONS.md names: functions that promise under a premise, and lists, each as `function: list`."""
     with open(EXCEPTIONS) as f:
@@ -99,12 +105,13 @@ def main():
     faults, out, former = [], [HEAD], None
     count, wrong = 0, ruled_out()
     premised, unsaid = excepted()
+    steps = stepped()
     under, silent = set(), set()
     for crate, name, path, clauses, lent in functions():
         count += 1
         kinds = [kind for kind, _ in clauses]
         promise = " ".join(text for kind, text in clauses if kind == "ensures")
-        if " → " in promise:
+        if " → " in promise or any(shown(text).split(" ")[0] in steps for _, text in clauses):
             under.add(name)
         silent |= {f"{name}: {part}" for part in lent if f"({part} .exit)" not in promise}
         if "requires" in kinds:

@@ -8,19 +8,19 @@ use lib.Dec.{leb}
 use lib.IntN.{ℤ, natAbs, _+ℤ_}
 use borrow.Author.Tests.{leb-true}
 use Rattle.refusal.specs.Answer.{Answer, given, BOOK}
-use Rattle.refusal.specs.Laws.{need-given, holds, one-given}
-use Rattle.period.specs.Signed.{isNegative}
+use Rattle.refusal.specs.Laws.Answers.{need-given, holds, one-given}
+use Rattle.period.specs.Period.{isNegative}
 use Rattle.period.specs.declared.Unit.{Unit}
 use Rattle.period.specs.declared.Unit.the-variants.{Days, Weeks, Months, Years}
 use Rattle.date.specs.declared.Fields.{Fields}
 use Rattle.date.specs.Civil.{fieldsOf, monthLength}
 use Rattle.date.specs.Date.{inBook, withinSpan, step, monthIndex, inMonth, makeOf, shiftDays, shiftMonths, shifted, advanceOf}
-use Rattle.date.specs.Months.{length-ge}
-use Rattle.date.specs.Round.{fields-valid}
-use Rattle.date.specs.Made.{made}
-use Rattle.date.specs.Moves.{book-from, book-le, year-at}
-use Rattle.date.specs.Order.{month-day-kept}
-use Rattle.advancing.specs.Signs.{Sum, sum, times, steps}
+use Rattle.date.specs.Laws.Months.{length-ge}
+use Rattle.date.specs.Laws.Round.{fields-valid}
+use Rattle.date.specs.Laws.Made.{made}
+use Rattle.date.specs.Laws.Moves.{book-from, book-le, year-at}
+use Rattle.date.specs.Laws.Order.{month-day-kept}
+use Rattle.advancing.specs.Laws.Signs.{Sum, sum, times, steps}
 
 -- days and weeks, which are seven days
 pub data InDays : Unit → Type 0 where

@@ -1,7 +1,6 @@
-pub mod Signs
-pub mod Dates
+pub mod Laws
 pub mod Years
-pub mod OpenSteps
+pub mod Dates
 pub mod OpenDays
 pub mod Cases
 pub mod Needed

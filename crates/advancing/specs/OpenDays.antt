@@ -11,17 +11,18 @@ use lib.IntN.{ℤ, pos, negsuc, negℤ, natAbs, _+ℤ_}
 use lib.Signed.{leZ}
 use borrow.Author.Tests.{leb-true, le-leb}
 use Rattle.refusal.specs.Answer.{given, BOOK, CALENDAR, TENOR}
-use Rattle.refusal.specs.Laws.{need-given, holds, one-given}
-use Rattle.period.specs.Signed.{isNegative}
+use Rattle.refusal.specs.Laws.Answers.{need-given, holds, one-given}
+use Rattle.period.specs.Period.{isNegative}
 use Rattle.period.specs.declared.Unit.the-variants.{Days}
 use Rattle.date.specs.Date.{inBook}
-use Rattle.date.specs.Moves.{book-le, book-from}
+use Rattle.date.specs.Laws.Moves.{book-le, book-from}
 use Rattle.calendar.specs.declared.Convention.{Convention}
 use Rattle.calendar.specs.Open.{isOpen, calendarOk}
-use Rattle.calendar.specs.Adjust.{inSpan, openSteps, byUnit, advanced}
+use Rattle.calendar.specs.AnyCalendar as any
+use Rattle.calendar.specs.Adjust.{inSpan, openSteps}
 use Rattle.calendar.specs.Calendar.{longest, tenorOk, advancedOf}
-use Rattle.advancing.specs.Signs.{Sum, sum}
-use Rattle.advancing.specs.OpenSteps.{of-span, return, from-open, one-way}
+use Rattle.advancing.specs.Laws.Signs.{Sum, sum}
+use Rattle.advancing.specs.Laws.OpenSteps.{of-span, return, from-open, one-way}
 
 -- neither is negative, or neither is positive
 pub data Like (a b : ℤ) : Type 0 where
@@ -56,13 +57,13 @@ book-span day h =
     of-span day (record { low = omega (arith, book-from day h); high = omega (arith, book-le day h) })
 
 -- what the call tests before it goes
-record Asked (mask : ℕ) (closed : List ℕ) (a : ℤ) (day : ℕ) : Type 0 where
+record Tested (mask : ℕ) (closed : List ℕ) (a : ℤ) (day : ℕ) : Type 0 where
   book : inBook day ≡ true
   sound : calendarOk mask closed ≡ true
   size : natAbs a ≤ 366
 
 module _ (mask : ℕ) (closed : List ℕ) where
-  asked : (v : Convention) (e : Bool) (a : ℤ) (day new : ℕ) → advancedOf mask closed a Days v e day ≡ given new → Asked mask closed a day
+  asked : (v : Convention) (e : Bool) (a : ℤ) (day new : ℕ) → advancedOf mask closed a Days v e day ≡ given new → Tested mask closed a day
   unfolding advancedOf tenorOk longest
   asked v e a day new h =
       let p = need-given BOOK (inBook day) _ new h in
@@ -70,8 +71,8 @@ module _ (mask : ℕ) (closed : List ℕ) where
       let r = need-given TENOR (leb (natAbs a) 366) _ new (q .1) in
       record { book = p .0; sound = q .0; size = leb-true (natAbs a) 366 (r .0) }
 
-  as-steps : (v : Convention) (e : Bool) (a : ℤ) (day : ℕ) → Asked mask closed a day → advancedOf mask closed a Days v e day ≡ openSteps mask closed (isNegative a) (natAbs a) day
-  unfolding advancedOf advanced byUnit tenorOk longest
+  as-steps : (v : Convention) (e : Bool) (a : ℤ) (day : ℕ) → Tested mask closed a day → advancedOf mask closed a Days v e day ≡ openSteps mask closed (isNegative a) (natAbs a) day
+  unfolding advancedOf any.advanced any.byUnit tenorOk longest
   as-steps v e a day g =
       sym
       (holds BOOK (inBook day) _ _ (g .book)
@@ -79,7 +80,7 @@ module _ (mask : ℕ) (closed : List ℕ) where
       (holds TENOR (leb (natAbs a) 366) _ _ (le-leb (natAbs a) 366 (g .size)) (holds BOOK (inSpan day) _ _ (book-span day (g .book)) refl))))
 
   back-steps : (a : ℤ) (day new : ℕ) → isOpen mask closed day ≡ true → inSpan day ≡ true → openSteps mask closed (isNegative a) (natAbs a) day ≡ given new → openSteps mask closed (isNegative (negℤ a)) (natAbs (negℤ a)) new ≡ given day
-  unfolding openSteps
+  unfolding any.openSteps
   back-steps (pos zero) day new o s p = sym p
   back-steps (pos (suc k)) day new o s p = return mask closed false (suc k) day new o s p
   back-steps (negsuc k) day new o s p = return mask closed true (suc k) day new o s p

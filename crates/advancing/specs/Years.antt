@@ -9,13 +9,13 @@ use lib.ListN.{getD}
 use lib.IntN.{ℤ, _+ℤ_}
 use borrow.Author.Tests.{eqb-true, eqb-false}
 use Rattle.refusal.specs.Answer.{given, BOOK}
-use Rattle.refusal.specs.Laws.{need-given}
+use Rattle.refusal.specs.Laws.Answers.{need-given}
 use Rattle.period.specs.declared.Unit.the-variants.{Years}
 use Rattle.date.specs.Civil.{leap, rowOf, fieldsOf, monthLength}
 use Rattle.date.specs.Date.{inBook, step, monthIndex, inMonth, shiftMonths, shifted, advanceOf}
-use Rattle.date.specs.Months.{length-ge}
-use Rattle.date.specs.Round.{Valid, fields-valid}
-use Rattle.date.specs.Made.{made}
+use Rattle.date.specs.Laws.Months.{length-ge}
+use Rattle.date.specs.Laws.Round.{Valid, fields-valid}
+use Rattle.date.specs.Laws.Made.{made}
 use Rattle.advancing.specs.Dates.{day-of, years-are, months-add-kept}
 
 -- a month but February has one length in every year

@@ -1,100 +1,59 @@
 -- A law for each way through a backward build.
 -- Assumes nothing.
-use mathlib.Core.Path.{_≡_, refl, ap, _∙_}
-use mathlib.Core.Bool.{true, false}
+use mathlib.Core.Path.{_≡_, refl, _∙_}
+use mathlib.Core.Bool.{Bool, true}
 use mathlib.Core.List.{List}
-use Prim.Native.Nat.{ℕ, zero, suc, _-_, _≤_, _<_}
-use native.Mathlib.Omega.{arith}
-use lib.ListN.{length, take, drop}
-use lib.Seq.{take-all}
-use borrow.Author.Tests.{eq-eqb, ne-eqb, lt-ltb, le-ltb}
-use Rattle.refusal.specs.Answer.{need, then, ROOM}
-use Rattle.refusal.specs.Laws.{fails, holds, then-given, then-refused}
-use Rattle.date.specs.declared.Date.{Date}
-use Rattle.date.specs.declared.Dated.{Dated}
-use Rattle.date.specs.declared.Dated.the-variants as dated-is
-use Rattle.date.specs.Date.{dated}
-use Rattle.date.specs.Made.{given-day, refused-day}
+use Prim.Native.Nat.{ℕ, zero, suc, _≤_, _<_}
+use borrow.Author.Needs.{needs}
+use borrow.Author.Tests.{eq-eqb, ne-eqb}
+use Rattle.refusal.specs.Answer.{Answer, need, then, ROOM}
+use Rattle.refusal.specs.Laws.Answers.{fails, holds}
+use Rattle.calendar.specs.declared.Convention.{Convention}
 use Rattle.steps.specs.declared.Pace.{Pace}
 use Rattle.steps.specs.declared.Seed.{Seed}
 use Rattle.steps.specs.declared.Request.{Request}
 use Rattle.steps.specs.Rules.{paceOf}
 use Rattle.steps.specs.Table.{isGiven}
 use Rattle.steps.specs.Candidates.{candidate, seedOf}
-use Rattle.steps.specs.Generate.{Lists, nothing, put, hasRoom, putPenultimate, anchorOr, begun, ended, backwardEnd}
+use Rattle.steps.specs.Generate.{Lists, Made, nothing, put, hasRoom, putPenultimate, anchorOr, begun, backwardEnd}
 use Rattle.steps.specs.Finish.{sameFlag}
-use Rattle.working.specs.declared.Filled.{Filled}
+use Rattle.working.specs.declared.Tip.{Tip}
 use Rattle.working.specs.declared.Filled.the-variants as filled-is
-use Rattle.working.specs.declared.adds.Added.{Added}
-use Rattle.working.specs.declared.adds.Added.the-variants as added-is
-use Rattle.working.specs.declared.Generated.the-variants as generated-is
-use Rattle.working.specs.Part.{Part, held, lastPut, filled, Placed, Filling}
-use Rattle.working.specs.Adding.{Adding}
-use Rattle.working.specs.Making.{generated, Lies, Generates}
-use Rattle.working.specs.Held.{put-length}
-use Rattle.working.specs.After.{added-sits, added-given}
+use Rattle.working.specs.Step.{Gives, gives, refuses, gives-as}
+use Rattle.working.specs.Part.{Work, Part, Placed, held, filled, Filling, fills}
+use Rattle.working.specs.Dates.{dates}
+use Rattle.working.specs.Held.{no-room, has-room}
 
 -- ---- the next-to-last date
-module _ (pace : Pace) (seed : Seed) {room n : ℕ} {work marks : List ℕ} (p : Part room n work marks) (some : 0 < n) (anchor : ℕ) where
-  pub penultimate-absent : anchor ≡ 0 → Filling true room (putPenultimate pace seed room anchor (held true n work marks)) (filled-is.Ready n) work marks
-  unfolding putPenultimate filled Placed
-  penultimate-absent e = record { says = rw e refl; part = (p, some) }
+there : (pace : Pace) (seed : Seed) (room : ℕ) (l : Lists) (x : ℕ) → (x ≡ 0 → ⊥) → need ROOM (hasRoom room l) (then (candidate true pace seed 1) (λ day. put room x (sameFlag day x) l)) ≡ putPenultimate pace seed room x l
+unfolding putPenultimate
+there pace seed room l zero h = absurd (h refl)
+there pace seed room l (suc x) h = refl
 
-  there : (x : ℕ) → (x ≡ 0 → ⊥) → need ROOM (hasRoom room (held true n work marks)) (then (candidate true pace seed 1) (λ day. put room x (sameFlag day x) (held true n work marks))) ≡ putPenultimate pace seed room x (held true n work marks)
-  unfolding putPenultimate
-  there zero h = absurd (h refl)
-  there (suc x) h = refl
-
-  length-is : length (held true n work marks .dates) ≡ n
-  unfolding held
-  length-is = put-length true work n (p .work-size) (omega (arith, p))
-
-  full : room ≤ n → hasRoom room (held true n work marks) ≡ false
-  unfolding hasRoom
-  full h = le-ltb (length (held true n work marks .dates)) room (let l = length-is in omega arith)
-
-  free : n < room → hasRoom room (held true n work marks) ≡ true
-  unfolding hasRoom
-  free h = lt-ltb (length (held true n work marks .dates)) room (let l = length-is in omega arith)
+module _ (pace : Pace) (seed : Seed) {room n : ℕ} {w : Work} (p : Placed room n w) (anchor : ℕ) where
+  pub penultimate-absent : anchor ≡ 0 → Filling true room (putPenultimate pace seed room anchor (held true n w)) (filled-is.Ready n) w
+  unfolding putPenultimate filled
+  penultimate-absent e = gives n (rw e refl) p
 
   module _ (h : anchor ≡ 0 → ⊥) where
-    pub penultimate-full : room ≤ n → Filling true room (putPenultimate pace seed room anchor (held true n work marks)) (filled-is.Refused 14) work marks
-    unfolding filled Placed
-    penultimate-full e = record { says = fails ROOM _ _ (full e) ∙ there anchor h; part = tt }
+    pub penultimate-full : room ≤ n → Filling true room (putPenultimate pace seed room anchor (held true n w)) (filled-is.Refused 14) w
+    unfolding filled
+    penultimate-full e = refuses 14 (fails ROOM _ _ (no-room true (p .part) e) ∙ there pace seed room _ anchor h)
 
-    module _ (space : n < room) (next : Dated) (s : dated next ≡ candidate true pace seed 1) where
-      pub penultimate-stop : (k : ℕ) → next ≡ dated-is.Refused k → Filling true room (putPenultimate pace seed room anchor (held true n work marks)) (filled-is.Refused k) work marks
-      unfolding filled Placed
-      penultimate-stop k e = record { says = holds ROOM _ _ _ (free space) (then-refused _ k _ (refused-day next k _ s e)) ∙ there anchor h; part = tt }
+    pub penultimate-on : {C : Type 0} {view : C → Lists} {Keeps : C → Type 0} {r : Answer C} → n < room → Gives view Keeps (then (candidate true pace seed 1) (λ day. put room anchor (sameFlag day anchor) (held true n w))) r → Gives view Keeps (putPenultimate pace seed room anchor (held true n w)) r
+    penultimate-on e g = gives-as (holds ROOM _ _ _ (has-room true (p .part) e) refl ∙ there pace seed room _ anchor h) g
 
-      pub penultimate-put : (d : Date) → next ≡ dated-is.Day d → (f : ℕ) → f ≡ sameFlag (d .day) anchor → (r : Filled) (work′ marks′ : List ℕ) → Filling true room (put room anchor f (held true n work marks)) r work′ marks′ → Filling true room (putPenultimate pace seed room anchor (held true n work marks)) r work′ marks′
-      penultimate-put d e f g r work′ marks′ v =
-          record {
-            says =
-                v .says
-                ∙ (holds ROOM _ _ _ (free space) (then-given _ (d .day) _ _ (given-day next d _ s e) (ap (λ (x : ℕ). put room anchor x (held true n work marks)) g)) ∙ there anchor h);
-            part = v .part;
-          }
+pub flagged : {C : Type 0} {view : C → Lists} {Keeps : C → Type 0} {r : Answer C} (room day f flag : ℕ) (l : Lists) → f ≡ flag → Gives view Keeps (put room day f l) r → Gives view Keeps (put room day flag l) r
+flagged room day f flag l e g = rw (← e) g
+
+pub ruleset penultimate = (penultimate-absent, penultimate-full, penultimate-on, flagged, dates, fills, needs)
 
 -- ---- the end
-module _ (q : Request) (closed : List ℕ) (tries seed : ℕ) {room : ℕ} {same : Type 0} (l : Lists) {a : Added} {work marks : List ℕ} (p : Adding (q .mask) closed (q .convention) true room same (ended q closed room l) a work marks) where
-  pub back-made : (n f : ℕ) → a ≡ added-is.Ready n f → (from : ℕ) → from ≡ 4096 - n → Generates room (backwardEnd q closed room tries seed l) (generated-is.Ready from from n tries seed) work marks
-  unfolding backwardEnd generated Lies held lastPut
-  back-made n f e from at =
-      let s = added-sits p n f e in
-      let t = s .0 in
-      let w : length (drop (4096 - n) work) ≡ n = put-length true work n (t .work-size) (omega (arith, t)) in
-      let d : take n (drop (4096 - n) work) ≡ drop (4096 - n) work = take-all n (drop (4096 - n) work) (omega arith) in
-      rw at
-      (record {
-        says = then-given (ended q closed room l) (held true n work marks) _ _ (added-given p n f e) (rw (d, w) refl);
-        lies = (omega arith, t .fits, omega (arith, t), omega (arith, t));
-      })
 
 -- ---- what the steps were called with is what the definition says
 pub begun-is : (q : Request) (room : ℕ) (pace : Pace) (seed : Seed) → pace ≡ paceOf (q .tenor) → seed ≡ seedOf (q .monthend) (q .termination .day) → then (put room (q .termination .day) 1 nothing) (putPenultimate pace seed room (q .penultimate .day)) ≡ begun q room
 unfolding begun
 begun-is q room pace seed a b = rw (a, b) refl
 
-pub back-end-seed : (q : Request) (closed : List ℕ) (room tries seed seed′ : ℕ) (l : Lists) → seed ≡ seed′ → backwardEnd q closed room tries seed l ≡ backwardEnd q closed room tries seed′ l
-back-end-seed q closed room tries seed seed′ l e = rw e refl
+pub back-end-seed : {C : Type 0} {view : C → Made} {Keeps : C → Type 0} {r : Answer C} (q : Request) (closed : List ℕ) (room tries seed seed′ : ℕ) (l : Lists) → seed ≡ seed′ → Gives view Keeps (backwardEnd q closed room tries seed l) r → Gives view Keeps (backwardEnd q closed room tries seed′ l) r
+back-end-seed q closed room tries seed seed′ l e g = rw (← e) g

@@ -1,9 +1,8 @@
 // The first dates of a backward build: termination, and the next-to-last date where there is one.
 ghost use mathlib.Core.Bool.{true};
-ghost use Prim.Native.Nat.{_<_};
 ghost use Rattle.refusal.specs.Answer.{then};
 ghost use Rattle.steps.specs.Generate.{nothing, put, putPenultimate};
-ghost use Rattle.working.specs.Part.{Part, held, Filling};
+ghost use Rattle.working.specs.Part.{working, Part, Placed, Fills};
 use date::Dated;
 use steps::Pace;
 use steps::Seed;
@@ -22,7 +21,7 @@ fn put_penultimate(
     work: &mut [u32],
     marks: &mut [u8],
 ) -> Filled
-    ensures { λ r. ⌜ (Part room n (now (work .entry)) (now (marks .entry)) → 0 < n → Filling true room (putPenultimate pace seed room anchor (held true n (now (work .entry)) (now (marks .entry)))) r (now (work .exit)) (now (marks .exit))) ⌝ }
+    ensures { λ r. ⌜ Fills (Placed room) true room (putPenultimate pace seed room anchor) n (working (now (work .entry)) (now (marks .entry))) r (working (now (work .exit)) (now (marks .exit))) ⌝ }
 {
     if anchor == 0 {
         return Filled::Ready(n);
@@ -30,19 +29,12 @@ fn put_penultimate(
     if room <= n {
         return Filled::Refused(refusal::ROOM);
     }
-    let next = candidates::candidate(true, pace, seed, 1);
-    match next {
-        Dated::Refused(k) => Filled::Refused(k),
-        Dated::Day(d) => lists::put(
-            true,
-            n,
-            room,
-            anchor,
-            flags::same_flag(d.day, anchor),
-            work,
-            marks,
-        ),
-    }
+    let next = match candidates::candidate(true, pace, seed, 1) {
+        Dated::Refused(k) => return Filled::Refused(k),
+        Dated::Day(d) => d,
+    };
+    let mark = flags::same_flag(next.day, anchor);
+    lists::put(true, n, room, anchor, mark, work, marks)
 }
 
 // Termination, then the next-to-last date.
@@ -55,11 +47,11 @@ pub(crate) fn begin(
     work: &mut [u32],
     marks: &mut [u8],
 ) -> Filled
-    ensures { λ r. ⌜ (Part room 0 (now (work .entry)) (now (marks .entry)) → Filling true room (then (put room termination 1 nothing) (putPenultimate pace seed room anchor)) r (now (work .exit)) (now (marks .exit))) ⌝ }
+    ensures { λ r. ⌜ Fills (Part room) true room (λ _. then (put room termination 1 nothing) (putPenultimate pace seed room anchor)) 0 (working (now (work .entry)) (now (marks .entry))) r (working (now (work .exit)) (now (marks .exit))) ⌝ }
 {
-    let end = lists::put(true, 0, room, termination, 1, work, marks);
-    match end {
-        Filled::Refused(k) => Filled::Refused(k),
-        Filled::Ready(n) => put_penultimate(n, room, pace, seed, anchor, work, marks),
-    }
+    let n = match lists::put_first(true, room, termination, 1, work, marks) {
+        Filled::Refused(k) => return Filled::Refused(k),
+        Filled::Ready(n) => n,
+    };
+    put_penultimate(n, room, pace, seed, anchor, work, marks)
 }

@@ -2,13 +2,16 @@
 ghost use mathlib.Core.Path.{_≡_};
 ghost use mathlib.Core.Bool.{true};
 ghost use Prim.Native.Nat.{_-_};
-ghost use Rattle.steps.specs.Generate.{newest, ended, backwardEnd};
-ghost use Rattle.working.specs.Part.{Begun, held};
-ghost use Rattle.working.specs.Turning.{Front};
-ghost use Rattle.working.specs.Adding.{Adding};
-ghost use Rattle.working.specs.Making.{Generates};
-use crate::Generated;
+ghost use Rattle.steps.specs.Generate.{ended, backwardEnd};
+ghost use Rattle.working.specs.Part.{working, held};
+ghost use Rattle.working.specs.Turning.{Ahead};
+ghost use Rattle.working.specs.Adding.{Adds};
+ghost use Rattle.working.specs.Making.{Makes};
 use steps::Request;
+use working::Adjusting;
+use working::Generated;
+use working::Piece;
+use working::Tip;
 use working::adds;
 use working::adds::Added;
 
@@ -16,45 +19,41 @@ use working::adds::Added;
 fn end(
     q: Request,
     closed: &[u32],
-    n: usize,
+    tip: Tip,
     room: usize,
-    front: u32,
     work: &mut [u32],
     marks: &mut [u8],
 ) -> Added
-    ensures { λ r. ⌜ (Begun (now (closed .entry)) room n (now (work .entry)) (now (marks .entry)) → Front (q .mask) (now (closed .entry)) (q .convention) front (newest (held true n (now (work .entry)) (now (marks .entry)))) → Adding (q .mask) (now (closed .entry)) (q .convention) true room (q .effective .day ≡ q .effective .day) (ended q (now (closed .entry)) room (held true n (now (work .entry)) (now (marks .entry)))) r (now (work .exit)) (now (marks .exit))) ⌝ }
+    ensures { λ r. ⌜ Adds (Ahead (q .mask) (now (closed .entry)) (q .convention) true room) true (ended q (now (closed .entry)) room) tip (working (now (work .entry)) (now (marks .entry))) r (working (now (work .exit)) (now (marks .exit))) ⌝ }
 {
     let convention = q.convention;
-    let effective = q.effective.day;
-    let anchored = adds::put_anchor(
-        true,
-        n,
-        room,
-        q.first.day,
-        front,
+    let adjusting = Adjusting {
         convention,
-        q.mask,
+        mask: q.mask,
+    };
+    let anchored = match adds::put_anchor(
+        true,
+        room,
+        tip,
+        q.first.day,
+        adjusting,
         closed,
         work,
         marks,
-    );
-    match anchored {
-        Added::Refused(k) => Added::Refused(k),
-        Added::Ready { n: m, front: f } => adds::put_new(
-            true,
-            m,
-            room,
-            effective,
-            effective,
-            0,
-            f,
-            convention,
-            q.mask,
-            closed,
-            work,
-            marks,
-        ),
-    }
+    ) {
+        Added::Refused(k) => return Added::Refused(k),
+        Added::Ready(t) => t,
+    };
+    adds::put_new(
+        true,
+        room,
+        anchored,
+        q.effective.day,
+        adjusting,
+        closed,
+        work,
+        marks,
+    )
 }
 
 // Where n dates begin that fill a working list from its far end.
@@ -68,28 +67,25 @@ fn far_place(n: usize) -> usize
 pub(crate) fn backward_end(
     q: Request,
     closed: &[u32],
-    n: usize,
+    tip: Tip,
     room: usize,
-    front: u32,
     tries: u32,
     seed: u32,
     work: &mut [u32],
     marks: &mut [u8],
 ) -> Generated
-    ensures { λ r. ⌜ (Begun (now (closed .entry)) room n (now (work .entry)) (now (marks .entry)) → Front (q .mask) (now (closed .entry)) (q .convention) front (newest (held true n (now (work .entry)) (now (marks .entry)))) → Generates room (backwardEnd q (now (closed .entry)) room tries seed (held true n (now (work .entry)) (now (marks .entry)))) r (now (work .exit)) (now (marks .exit))) ⌝ }
+    ensures { λ r. ⌜ Makes (Ahead (q .mask) (now (closed .entry)) (q .convention) true room (working (now (work .entry)) (now (marks .entry))) tip) room (backwardEnd q (now (closed .entry)) room tries seed (held true (tip .n) (working (now (work .entry)) (now (marks .entry))))) r (working (now (work .exit)) (now (marks .exit))) ⌝ }
 {
-    let last = end(q, closed, n, room, front, work, marks);
-    match last {
-        Added::Refused(k) => Generated::Refused(k),
-        Added::Ready { n: m, front: _ } => {
-            let from = far_place(m);
-            Generated::Ready {
-                from,
-                marked: from,
-                n: m,
-                tries,
-                seed,
-            }
-        }
-    }
+    let last = match end(q, closed, tip, room, work, marks) {
+        Added::Refused(k) => return Generated::Refused(k),
+        Added::Ready(t) => t,
+    };
+    let from = far_place(last.n);
+    Generated::Ready(Piece {
+        from,
+        marked: from,
+        n: last.n,
+        tries,
+        seed,
+    })
 }

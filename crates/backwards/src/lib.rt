@@ -2,13 +2,15 @@
 ghost use mathlib.Core.Path.{_≡_};
 ghost use mathlib.Core.Bool.{true};
 ghost use Rattle.steps.specs.Rules.{paceOf};
-ghost use Rattle.steps.specs.Fewer.{keptFrom, keptBackward};
-ghost use Rattle.working.specs.Part.{Part, Begun, held};
-ghost use Rattle.working.specs.Making.{Checked, Generates};
+ghost use Rattle.steps.specs.Fewer.Steps.{keptFrom, keptBackward};
+ghost use Rattle.working.specs.Part.{working, Begun, held};
+ghost use Rattle.working.specs.Making.{Blank, Makes};
 use steps::Pace;
 use steps::Request;
 use steps::rules;
 use steps::seeds;
+use working::Adjusting;
+use working::Course;
 use working::Filled;
 use working::Generated;
 use working::candidates;
@@ -30,39 +32,26 @@ fn backward_from(
     work: &mut [u32],
     marks: &mut [u8],
 ) -> Generated
-    ensures { λ r. ⌜ (pace ≡ paceOf (q .tenor) → Begun (now (closed .entry)) room n (now (work .entry)) (now (marks .entry)) → Generates room (keptFrom q (now (closed .entry)) room (held true n (now (work .entry)) (now (marks .entry)))) r (now (work .exit)) (now (marks .exit))) ⌝ }
+    ensures { λ r. ⌜ Makes ((pace ≡ paceOf (q .tenor)) × Begun (now (closed .entry)) room n (working (now (work .entry)) (now (marks .entry)))) room (keptFrom q (now (closed .entry)) room (held true n (working (now (work .entry)) (now (marks .entry))))) r (working (now (work .exit)) (now (marks .exit))) ⌝ }
 {
     let convention = q.convention;
     let day = seeds::anchor_or(q.penultimate.day, q.termination.day);
-    let exit = seeds::anchor_or(q.first.day, q.effective.day);
-    let seed = seeds::seed_of(q.monthend, day);
-    let walked = walks::walk(
-        rules::settles(q),
-        true,
+    let course = Course {
+        settled: rules::settles(q),
         pace,
-        seed,
-        exit,
+        seed: seeds::seed_of(q.monthend, day),
+        exit: seeds::anchor_or(q.first.day, q.effective.day),
+    };
+    let adjusting = Adjusting {
         convention,
-        q.mask,
-        closed,
-        n,
-        room,
-        work,
-        marks,
-    );
+        mask: q.mask,
+    };
+    let walked = walks::walk(course, true, room, adjusting, closed, n, work, marks);
     match walked {
         Walked::Refused(k) => Generated::Refused(k),
-        Walked::Ready { n: m, tries, front } => ending::backward_end(
-            q,
-            closed,
-            m,
-            room,
-            front,
-            tries,
-            day,
-            work,
-            marks,
-        ),
+        Walked::Ready { tip, tries } => {
+            ending::backward_end(q, closed, tip, room, tries, day, work, marks)
+        }
     }
 }
 
@@ -74,23 +63,16 @@ pub fn backward(
     work: &mut [u32],
     marks: &mut [u8],
 ) -> Generated
-    ensures { λ r. ⌜ (Checked q (now (closed .entry)) → Part room 0 (now (work .entry)) (now (marks .entry)) → Generates room (keptBackward q (now (closed .entry)) room) r (now (work .exit)) (now (marks .exit))) ⌝ }
+    ensures { λ r. ⌜ Makes (Blank q (now (closed .entry)) room (working (now (work .entry)) (now (marks .entry)))) room (keptBackward q (now (closed .entry)) room) r (working (now (work .exit)) (now (marks .exit))) ⌝ }
 {
     let tenor = q.tenor;
     let pace = candidates::pace_of(tenor);
     let termination = q.termination.day;
     let seed = seeds::seed_of(q.monthend, termination);
-    let begun = beginning::begin(
-        termination,
-        q.penultimate.day,
-        pace,
-        seed,
-        room,
-        work,
-        marks,
-    );
-    match begun {
-        Filled::Refused(k) => Generated::Refused(k),
-        Filled::Ready(n) => backward_from(q, closed, pace, n, room, work, marks),
-    }
+    let anchor = q.penultimate.day;
+    let n = match beginning::begin(termination, anchor, pace, seed, room, work, marks) {
+        Filled::Refused(k) => return Generated::Refused(k),
+        Filled::Ready(n) => n,
+    };
+    backward_from(q, closed, pace, n, room, work, marks)
 }

@@ -13,9 +13,9 @@ use borrow.Author.Needs.{needs}
 use Rattle.refusal.specs.Answer.{given, refused, CLOSED}
 use Rattle.date.specs.Date.{SPAN-FIRST, SPAN-LAST, step}
 use Rattle.calendar.specs.Open.{weeklyClosed, member, isOpen, closedOk}
-use Rattle.calendar.specs.Places.{Below, Above, LowerBound}
+use Rattle.calendar.specs.Inner.Places.{Below, Above, LowerBound}
 use Rattle.calendar.specs.Adjust.{firstOpen}
-use Rattle.calendar.specs.Search.{turn-open, turn-shut, turn-none}
+use Rattle.calendar.specs.Laws.Search.{turn-open, turn-shut, turn-none}
 use Rattle.calendar.proofs.Places.{strictly}
 use Rattle.calendar.proofs.Members.{present, between, below-to, above-from, below-none, above-end, shut-week, shut-listed, is-open}
 
@@ -64,7 +64,7 @@ module _ {back : Bool} {mask : ℕ} {closed : List ℕ} {start day left at weekd
   weekly p = p ∙ ap (λ (k : ℕ). eqb (mask / 2 ^ k % 2) 1) (g .on)
 
   none : left ≡ 0 → firstOpen mask closed back 31 start ≡ refused CLOSED
-  none h = sym (g .same) ∙ ap (λ (k : ℕ). firstOpen mask closed back k day) h ∙ turn-none mask closed back day
+  none h = sym (g .same) ∙ ap (λ (k : ℕ). firstOpen mask closed back k day) h ∙ turn-none (isOpen mask closed) back day
 
   module _ (h : 0 < left) where
     one-less : firstOpen mask closed back left day ≡ firstOpen mask closed back (suc (left - 1)) day
@@ -77,7 +77,7 @@ module _ {back : Bool} {mask : ℕ} {closed : List ℕ} {start day left at weekd
           least = step-least back day left h (g .least);
           most = step-most back day left h (g .most);
           scan = s;
-          same = sym (turn-shut mask closed back (left - 1) day e) ∙ sym one-less ∙ g .same;
+          same = sym (turn-shut (isOpen mask closed) back (left - 1) day e) ∙ sym one-less ∙ g .same;
           on = n;
         }
 
@@ -89,7 +89,7 @@ module _ {back : Bool} {mask : ℕ} {closed : List ℕ} {start day left at weekd
     -- an open day is the answer
     take : {w : Bool} → w ≡ eqb (mask / 2 ^ weekday % 2) 1 → w ≡ false → member day closed ≡ false → given day ≡ firstOpen mask closed back 31 start
     take p q m =
-        sym (sym (g .same) ∙ one-less ∙ turn-open mask closed back (left - 1) day (is-open mask closed day (sym (weekly p) ∙ q) m))
+        sym (sym (g .same) ∙ one-less ∙ turn-open (isOpen mask closed) back (left - 1) day (is-open mask closed day (sym (weekly p) ∙ q) m))
 
 pub days-none : {back : Bool} {mask : ℕ} {closed : List ℕ} {start day left at weekday : ℕ} → Days back mask closed start day left at weekday → left ≡ 0 → closedOk closed ≡ true → refused CLOSED ≡ firstOpen mask closed back 31 start
 days-none g h ok = sym (none g h)

@@ -11,8 +11,8 @@ use lib.ListN.{length, getD}
 use lib.Dec.{eqb, ltb}
 use borrow.Author.Tests.{eq-eqb, ne-eqb, ltb-true, ltb-false}
 use Rattle.calendar.specs.Open.{weeklyClosed, member, isOpen, closedOk}
-use Rattle.calendar.specs.Kept.{ok-at}
-use Rattle.calendar.specs.Places.{Below, Above}
+use Rattle.calendar.specs.Laws.Kept.{ok-at}
+use Rattle.calendar.specs.Inner.Places.{Below, Above}
 
 pub present : (closed : List ℕ) (k day : ℕ) → k < length closed → getD closed k 0 ≡ day → member day closed ≡ true
 unfolding member

@@ -11,9 +11,9 @@ use borrow.Author.Tests.{ltb-true, ltb-false, eqb-true, eqb-false, eq-eqb, ne-eq
 use Rattle.date.specs.declared.Fields.{Fields}
 use Rattle.date.specs.Civil.{dayNumber, fieldsOf}
 use Rattle.date.specs.Date.{monthIndex}
-use Rattle.date.specs.Round.{Valid, fields-of-day, day-of-fields, fields-valid}
+use Rattle.date.specs.Laws.Round.{Valid, fields-of-day, day-of-fields, fields-valid}
 use Rattle.calendar.specs.Adjust.{sameMonth}
-use Rattle.calendar.specs.Near.{OneMonth}
+use Rattle.calendar.specs.Inner.Near.{OneMonth}
 
 -- two days of a month are as far apart as their numbers in it
 apart : (y m d e : ℕ) → dayNumber y m d + e ≡ dayNumber y m e + d

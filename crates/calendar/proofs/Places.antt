@@ -10,8 +10,8 @@ use native.Mathlib.Omega.{arith}
 use lib.ListN.{length, getD}
 use borrow.Author.Needs.{needs}
 use Rattle.calendar.specs.Open.{closedOk}
-use Rattle.calendar.specs.Kept.{ok-at}
-use Rattle.calendar.specs.Places.{LowerBound, Bracket}
+use Rattle.calendar.specs.Laws.Kept.{ok-at}
+use Rattle.calendar.specs.Inner.Places.{LowerBound, Bracket}
 
 -- a number that is at least another, and not the same, is greater
 pub strictly : (x y : ℕ) → x ≤ y → (y ≡ x → ⊥) → x < y

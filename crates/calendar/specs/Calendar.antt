@@ -6,7 +6,7 @@ use mathlib.Core.List.{List}
 use lib.Dec.{eqb, leb}
 use lib.IntN.{ℤ, natAbs}
 use Rattle.refusal.specs.Answer.{Answer, given, refused, need, BOOK, CALENDAR, TENOR}
-use Rattle.period.specs.Signed.{isNegative}
+use Rattle.period.specs.Period.{isNegative}
 use Rattle.period.specs.declared.Unit.{Unit}
 use Rattle.period.specs.declared.Unit.the-variants.{Days, Weeks, Months, Years}
 use Rattle.date.specs.Date.{inBook}

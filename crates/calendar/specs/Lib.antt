@@ -1,12 +1,7 @@
 pub mod Open
-pub mod Kept
-pub mod Mask
-pub mod Near
-pub mod Places
+pub mod Laws
+pub mod Inner
+pub mod AnyCalendar
 pub mod Adjust
-pub mod Search
-pub mod Stays
 pub mod Calendar
-pub mod Told
 pub mod Sums
-pub mod Always

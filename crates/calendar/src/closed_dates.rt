@@ -3,7 +3,7 @@ ghost use mathlib.Core.Path.{_≡_};
 ghost use Prim.Native.Nat.{_+_};
 ghost use lib.ListN.{length};
 ghost use Rattle.calendar.specs.Open.{closedOk};
-ghost use Rattle.calendar.specs.Places.{Bracket, LowerBound};
+ghost use Rattle.calendar.specs.Inner.Places.{Bracket, LowerBound};
 use date::span;
 
 // Whether the list keeps its rule: one pass, without a branch for each date. As the dates ascend, the last alone is held against the

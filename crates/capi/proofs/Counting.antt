@@ -8,8 +8,8 @@ use lib.Signed.{mag}
 use mir.Syntax.{w64}
 use mir.Val.{toZ, ofZ}
 use Rattle.refusal.specs.Answer.{Answer}
-use Rattle.crossing.specs.Answers.{Placed}
-use Rattle.crossing.specs.Calls.{handed}
+use Rattle.crossing.specs.Answers.{FirstPlace}
+use Rattle.crossing.specs.Laws.Calls.{handed}
 
-pub placed-as : {list list′ : List ℤ} {r : ℤ} (a b : Answer ℤ) → mag r < 9223372036854775808 → a ≡ b → Placed a r list list′ → Placed b (toZ w64 (ofZ w64 r)) list list′
+pub placed-as : {list list′ : List ℤ} {r : ℤ} (a b : Answer ℤ) → mag r < 9223372036854775808 → a ≡ b → FirstPlace a r list list′ → FirstPlace b (toZ w64 (ofZ w64 r)) list list′
 placed-as {r = r} a b s e p = rw (← e) (record { answer = handed r s (p .answer); list-after = p .list-after })

@@ -1,4 +1,5 @@
-// Schedules, from a request in numbers.
+// Schedules, from a request in numbers. C hands a request over field by field, so that its functions here have more than eight
+// parameters.
 ghost use mathlib.Core.Path.{_≡_};
 ghost use Rattle.refusal.specs.Answer.{then};
 ghost use Rattle.coming.specs.Coming.{comingOf};
@@ -9,7 +10,7 @@ ghost use Rattle.crossing.specs.Requests.{requestOf};
 ghost use Rattle.recorded.specs.Builds.{Reported};
 use crossing::answers;
 use crossing::requests;
-use crossing::requests::Asked;
+use crossing::requests::FromNumbers;
 use date::Date;
 
 // Builds a schedule: the dates into the start of `dates`, the flags of the periods between them (1 regular) into the start
@@ -98,7 +99,7 @@ pub extern "C" fn heronspan_coming(
         mask,
     );
     match request {
-        Asked::Is(q) => answers::of_coming(coming::after(q, closed, Date { day: asked })),
-        Asked::Refused(n) => answers::minus(n),
+        FromNumbers::Is(q) => answers::of_coming(coming::after(q, closed, Date { day: asked })),
+        FromNumbers::Refused(n) => answers::minus(n),
     }
 }

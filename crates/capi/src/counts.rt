@@ -3,7 +3,7 @@
 ghost use Rattle.refusal.specs.Answer.{then};
 ghost use Rattle.period.specs.Period.{timesOf};
 ghost use Rattle.date.specs.Date.{differenceOf};
-ghost use Rattle.crossing.specs.Answers.{Placed, lengthIn};
+ghost use Rattle.crossing.specs.Answers.{FirstPlace, lengthIn};
 ghost use Rattle.crossing.specs.Numbers.{unitOf};
 use crossing::counts;
 use date::Date;
@@ -11,7 +11,7 @@ use date::Date;
 // How many days the first day lies after the second.
 #[no_mangle]
 pub extern "C" fn heronspan_difference(a: u32, b: u32, days: &mut [i32]) -> i64
-    ensures { λ r. ⌜ Placed (differenceOf a b) r (now (days .entry)) (now (days .exit)) ⌝ }
+    ensures { λ r. ⌜ FirstPlace (differenceOf a b) r (now (days .entry)) (now (days .exit)) ⌝ }
 {
     let date = Date { day: a };
     counts::put_counted(date.difference(Date { day: b }), days)
@@ -20,7 +20,7 @@ pub extern "C" fn heronspan_difference(a: u32, b: u32, days: &mut [i32]) -> i64
 // The length of a tenor that is taken `count` times; its unit stays.
 #[no_mangle]
 pub extern "C" fn heronspan_times(tenor: i32, unit: u8, count: i32, out: &mut [i32]) -> i64
-    ensures { λ r. ⌜ Placed (then (unitOf unit) (λ u. lengthIn (timesOf tenor u count))) r (now (out .entry)) (now (out .exit)) ⌝ }
+    ensures { λ r. ⌜ FirstPlace (then (unitOf unit) (λ u. lengthIn (timesOf tenor u count))) r (now (out .entry)) (now (out .exit)) ⌝ }
 {
     counts::put_counted(counts::times(tenor, unit, count), out)
 }

@@ -10,7 +10,7 @@ use types.Run.{OneOf}
 use borrow.Author.Needs.{needs}
 use borrow.Author.Tests.{eq-eqb, ne-eqb, not-true}
 use Rattle.refusal.specs.Answer.{given, refused, need, CALENDAR}
-use Rattle.refusal.specs.Laws.{both, need-given, never-both}
+use Rattle.refusal.specs.Laws.Answers.{both, need-given, never-both}
 use Rattle.date.specs.Date.{inBook}
 use Rattle.calendar.specs.declared.Checked.{Checked}
 use Rattle.calendar.specs.declared.Checked.the-variants as checked-is
@@ -21,9 +21,9 @@ use Rattle.steps.specs.declared.Rule.{Rule}
 use Rattle.steps.specs.declared.Rule.the-variants.{ThirdWednesday}
 use Rattle.steps.specs.declared.Request.{Request}
 use Rattle.steps.specs.Rules.{rules, ruleNumber, oneOf, ruleInForce}
-use Rattle.steps.specs.RuleLaws.{agree, keep, keysOf, tagsAre, told}
+use Rattle.steps.specs.Laws.Rules.{agree, keep, keysOf, tagsAre, told}
 use Rattle.steps.specs.Table.{numberOr, firstRow, isGiven, anchorOk, datesOk, byRange, byImm, outOfRange, notImm, wrongRule, anchorRows, firstRows, lastRows, rowsUnder}
-use Rattle.steps.specs.Rows.{numbered, row-holds, row-passed, no-rows, rows-hold, rows-passed}
+use Rattle.steps.specs.Laws.Rows.{numbered, row-holds, row-passed, no-rows, rows-hold, rows-passed}
 use Rattle.steps.proofs.Rule.{the-type}
 
 -- ---- dates

@@ -1,7 +1,7 @@
 // The length of a tenor: whether it is negative, or too long.
 ghost use mathlib.Core.Path.{_≡_};
 ghost use lib.IntN.{natAbs};
-ghost use Rattle.period.specs.Signed.{isNegative, isPositive};
+ghost use Rattle.period.specs.Period.{isNegative, isPositive};
 ghost use Rattle.calendar.specs.Calendar.{tenorOk};
 ghost use Rattle.steps.specs.Table.{inDays};
 use period::Period;

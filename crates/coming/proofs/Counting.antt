@@ -14,13 +14,13 @@ use Rattle.date.specs.declared.Fields.{Fields}
 use Rattle.date.specs.declared.Dated.the-variants.{Day, Refused}
 use Rattle.date.specs.Civil.{pickN, fieldsOf}
 use Rattle.date.specs.Date.{dated, monthIndex, inMonth, step}
-use Rattle.date.specs.Round.{fields-valid}
-use Rattle.date.specs.Moves.{valid-at, year-at}
+use Rattle.date.specs.Laws.Round.{fields-valid}
+use Rattle.date.specs.Laws.Moves.{valid-at, year-at}
 use Rattle.steps.specs.declared.Pace.{Pace}
 use Rattle.steps.specs.declared.Seed.{Seed}
 use Rattle.steps.specs.Candidates.{isPast}
-use Rattle.plain.specs.Falling.{dayOr}
-use Rattle.coming.specs.Counted.{apart, monthsApart, mostMonths, mostFrom, tenorsFrom, Booked, Counts}
+use Rattle.plain.specs.Most.{dayOr}
+use Rattle.coming.specs.Laws.Counted.{apart, monthsApart, mostMonths, mostFrom, tenorsFrom, Booked, Counts}
 
 -- ---- by direction
 module _ (back : Bool) (a b : ℕ) where

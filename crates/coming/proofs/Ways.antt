@@ -20,10 +20,10 @@ use Rattle.date.specs.declared.Fields.{Fields}
 use Rattle.date.specs.declared.Dated.{Dated}
 use Rattle.date.specs.declared.Dated.the-variants.{Day, Refused}
 use Rattle.date.specs.Civil.{pickN, fieldsOf}
-use Rattle.refusal.specs.Laws.{both, need-given, never-both, holds}
-use Rattle.period.specs.Signed.{isNegative}
+use Rattle.refusal.specs.Laws.Answers.{both, need-given, never-both, holds}
+use Rattle.period.specs.Period.{isNegative}
 use Rattle.date.specs.Date.{dated, inBook, monthIndex}
-use Rattle.date.specs.Moves.{book-le}
+use Rattle.date.specs.Laws.Moves.{book-le}
 use Rattle.calendar.specs.Open.{calendarOk}
 use Rattle.calendar.specs.declared.Checked.{Checked}
 use Rattle.calendar.specs.declared.Checked.the-variants as checked-is
@@ -34,18 +34,18 @@ use Rattle.steps.specs.declared.Seed.{Seed}
 use Rattle.steps.specs.Candidates.{seedOf, candidate}
 use Rattle.steps.specs.Rules.{ruleInForce, isBackward, paceOf}
 use Rattle.steps.specs.Table.{Row, numberOr, firstRow, anchorOk, datesOk, anchorRows, firstRows, lastRows, rowsUnder, inputRows}
-use Rattle.steps.specs.TableLaws.{answer-is-none}
+use Rattle.steps.specs.Laws.Table.{answer-is-none}
 use Rattle.working.specs.Paces.{pace, pace-checked}
-use Rattle.outcomes.specs.Span.{since}
-use Rattle.plain.specs.Asked.{isStraight}
-use Rattle.plain.specs.Checks.{not-negative}
-use Rattle.plain.specs.Falling.{dayOr}
+use Rattle.outcomes.specs.Laws.Span.{since}
+use Rattle.plain.specs.PlainTests.{isStraight}
+use Rattle.plain.specs.Laws.Checks.{not-negative}
+use Rattle.plain.specs.Most.{dayOr}
 use Rattle.coming.specs.declared.Coming.{Coming}
 use Rattle.coming.specs.declared.Coming.the-variants as coming
 use Rattle.coming.specs.Coming.{Comes, begins, comes, none-comes, pickC, isDirect, isAnswered, askedRows, onOr, flagBy, comesBackward, comesForward, comesBetween, comesAfter, unlessRefused, comingOf, meant}
-use Rattle.coming.specs.Counted.{tenorsFrom, behindOf, aheadOf, behind-is, ahead-is, Booked, SeedIn, behind-in, ahead-in}
-use Rattle.coming.specs.Straight.{Straight, backward, forward, straight, asked-numbered, answerable}
-use Rattle.coming.specs.Checked.{isEarly, leftRows, Passed}
+use Rattle.coming.specs.Laws.Counted.{tenorsFrom, behindOf, aheadOf, behind-is, ahead-is, Booked, SeedIn, behind-in, ahead-in}
+use Rattle.coming.specs.Laws.Straight.{Straight, backward, forward, straight, asked-numbered, answerable}
+use Rattle.coming.specs.Inner.Checked.{isEarly, leftRows, Passed}
 use Rattle.coming.proofs.Counting.{tenors-few}
 
 -- ---- the class, and the rows of a build that are the question's too

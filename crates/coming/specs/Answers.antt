@@ -19,9 +19,8 @@ use Rattle.steps.specs.declared.Rule.the-variants.{Zero, Backward, Forward, CDS
 use Rattle.steps.specs.declared.Request.{Request}
 use Rattle.steps.specs.Rules.{ruleNumber, oneOf, isBackward}
 use Rattle.steps.specs.Table.{numberOr, firstRow, anchorOk, datesOk}
-use Rattle.plain.specs.Asked.{isUnadjusted, isStraight}
-use Rattle.plain.specs.Mosts.{monthsBetween, mostBy}
-use Rattle.plain.specs.MostOn.{mostOnBy}
+use Rattle.plain.specs.PlainTests.{isUnadjusted, isStraight}
+use Rattle.plain.specs.Most.{monthsBetween, mostBy, mostOnBy}
 use Rattle.coming.specs.Coming.{Comes, begins, comes, none-comes, isDirect, askedRows, onOr, comesForward, flagBy, comesBackward, comesAfter, unlessRefused, comingOf}
 
 abbrev on : ℕ → ℕ → ℕ

@@ -7,7 +7,7 @@ use mathlib.Core.List.{List, [], _∷_}
 use lib.Dec.{eqb, leb, ltb}
 use lib.IntN.{natAbs}
 use Rattle.refusal.specs.Answer.{Answer, given, refused, BOOK, CALENDAR, NEGATIVE, TENOR, NOTPLAIN}
-use Rattle.period.specs.Signed.{isNegative}
+use Rattle.period.specs.Period.{isNegative}
 use Rattle.date.specs.Civil.{pickN}
 use Rattle.date.specs.Date.{inBook}
 use Rattle.calendar.specs.Open.{calendarOk}
@@ -16,12 +16,10 @@ use Rattle.steps.specs.declared.Rule.{Rule}
 use Rattle.steps.specs.declared.Request.{Request}
 use Rattle.steps.specs.Rules.{ruleNumber, isBackward}
 use Rattle.steps.specs.Table.{Row, row, firstRow, datesOk}
-use Rattle.plain.specs.Asked.{isStraight}
+use Rattle.plain.specs.PlainTests.{isStraight}
 use Rattle.plain.specs.Demand.{tenorsBefore, tenorCount}
 use Rattle.plain.specs.Forward.{tenorsAfter}
-use Rattle.plain.specs.Falling.{dayOr}
-use Rattle.plain.specs.Mosts.{mostBy}
-use Rattle.plain.specs.MostOn.{mostOnBy}
+use Rattle.plain.specs.Most.{dayOr, mostBy, mostOnBy}
 use Rattle.coming.specs.declared.Coming.{Coming}
 use Rattle.coming.specs.declared.Coming.the-variants as coming
 

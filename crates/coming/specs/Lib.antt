@@ -1,9 +1,6 @@
 pub mod Coming
 pub mod Shows
 pub mod Promise
-pub mod Straight
-pub mod Forwards
-pub mod Backwards
+pub mod Laws
 pub mod Answers
-pub mod Counted
-pub mod Checked
+pub mod Inner

@@ -7,18 +7,18 @@ use mathlib.Core.Bool.{Bool, true, false}
 use mathlib.Core.List.{List, [], _∷_}
 use native.Mathlib.Omega.{arith}
 use Rattle.refusal.specs.Answer.{Answer, given, refused, number, BOOK, CALENDAR, NEGATIVE, TENOR, NOTPLAIN}
-use Rattle.refusal.specs.Laws.{never-both, one-given}
+use Rattle.refusal.specs.Laws.Answers.{never-both, one-given}
 use Rattle.steps.specs.declared.Request.{Request}
 use Rattle.steps.specs.Rules.{ruleNumber, oneOf, isBackward}
 use Rattle.steps.specs.Table.{firstRow}
-use Rattle.steps.specs.TableLaws.{numbers, NoneHolds, FirstHolds, first-answers, answer-is-first, none-answers, answer-is-none}
+use Rattle.steps.specs.Laws.Table.{numbers, NoneHolds, FirstHolds, first-answers, answer-is-first, none-answers, answer-is-none}
 use Rattle.steps.specs.Build.{Schedule, buildOf}
 use Rattle.outcomes.specs.NoLimit.{NoLimit, no-limit-once, no-limit-built}
 use Rattle.coming.specs.Coming.{Comes, pickC, askedRows, betweenOr, comesBackward, comesForward, comesAfter, unlessRefused, comingOf}
 use Rattle.coming.specs.Shows.{Shows, shows-once}
-use Rattle.coming.specs.Straight.{Straight, backward, forward, Answerable, asked-numbered, first-not-zero, answerable}
-use Rattle.coming.specs.Backwards.{shown-backward}
-use Rattle.coming.specs.Forwards.{shown-forward}
+use Rattle.coming.specs.Laws.Straight.{Straight, backward, forward, Answerable, asked-numbered, first-not-zero, answerable}
+use Rattle.coming.specs.Laws.Backwards.{shown-backward}
+use Rattle.coming.specs.Laws.Forwards.{shown-forward}
 
 -- what the steps' own list shows: they give it with every room from some room on, generate then finish, not cut at 4,096
 pub record Listed (q : Request) (closed : List ℕ) (x : ℕ) (a : Comes) : Type 0 where

@@ -9,7 +9,7 @@ use lib.ListN.{length, getD}
 use borrow.Author.Tests.{le-leb, lt-leb, le-ltb, lt-ltb}
 use Rattle.steps.specs.declared.Request.{Request}
 use Rattle.steps.specs.Build.{Schedule}
-use Rattle.outcomes.specs.Span.{le-or-lt}
+use Rattle.outcomes.specs.Laws.Span.{le-or-lt}
 use Rattle.coming.specs.Coming.{Comes, begins, comes, none-comes, betweenOr}
 
 -- date i is the first of the schedule after day x

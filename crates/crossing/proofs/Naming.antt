@@ -17,14 +17,14 @@ use mir.Facts.{toZ-ofZ, toZ-pos}
 use borrow.Author.Needs.{needs}
 use borrow.Author.Tests.{le-leb, lt-leb}
 use Rattle.refusal.specs.Answer.{Answer, given, refused}
-use Rattle.refusal.specs.Laws.{fails, holds}
-use Rattle.refusal.specs.declared.Row.{Row}
+use Rattle.refusal.specs.Laws.Answers.{fails, holds}
+use Rattle.refusal.specs.declared.NameRow.{NameRow}
 use Rattle.refusal.specs.Refusals.{Refusal, refusals, ofNumber, letters, nameOfNumber, rowsOf}
-use Rattle.refusal.specs.Searched.{found, passed, nowhere, row-name, list-keeps, row-kept}
+use Rattle.refusal.specs.Laws.Searched.{found, passed, nowhere, row-name, list-keeps, row-kept}
 use Rattle.steps.specs.Build.{over}
 use Rattle.crossing.specs.Answers.{oneNumber}
 use Rattle.crossing.specs.Names.{nameOf, fitting, textAfter, Spelled, Naming}
-use Rattle.crossing.specs.Calls.{told-refused}
+use Rattle.crossing.specs.Laws.Calls.{told-refused}
 
 pub record Writing (name old new : List ℕ) (k : ℕ) : Type 0 where
   pub within : k ≤ length name
@@ -84,8 +84,8 @@ unfolding namedIn nameOf nameOfNumber
 in-all (pos n) = refl
 in-all (negsuc n) = refl
 
-module _ (d : Row) (k : ℕ) (h : k < length refusals) where
-  abbrev row : Row
+module _ (d : NameRow) (k : ℕ) (h : k < length refusals) where
+  abbrev row : NameRow
   row = getD (rowsOf refusals) k d
 
   hit : (z : ℤ) (n : ℕ) → row .0 ≡ n → 1 ≤ n → z ≡ negℤ (pos n) → namedIn (drop k refusals) z ≡ take (row .1) (row .2)
@@ -116,7 +116,7 @@ unfolding namedIn
 nothing-left (pos n) k h = refl
 nothing-left (negsuc n) k h = sym (nowhere (λ r. letters (r .name)) [] (suc n) refusals k h)
 
-pub row-none : (z : ℤ) (k : ℕ) (row : Row) → SFits w64 z → row .1 ≡ 0 → length refusals ≤ k → namedIn (drop k refusals) (toZ w64 (ofZ w64 z)) ≡ nameOf (toZ w64 (ofZ w64 z)) → Naming z row
+pub row-none : (z : ℤ) (k : ℕ) (row : NameRow) → SFits w64 z → row .1 ≡ 0 → length refusals ≤ k → namedIn (drop k refusals) (toZ w64 (ofZ w64 z)) ≡ nameOf (toZ w64 (ofZ w64 z)) → Naming z row
 row-none z k row fits e h left =
     record {
       narrow = omega (arith, e);

@@ -58,7 +58,7 @@ placed (given z) list = set list 0 z
 placed (refused n) list = list
 
 -- the promise of a function that answers a count
-pub record Placed (a : Answer ℤ) (r : ℤ) (list list′ : List ℤ) : Type 0 where
+pub record FirstPlace (a : Answer ℤ) (r : ℤ) (list list′ : List ℤ) : Type 0 where
   pub answer : r ≡ oneNumber done (withPlace list a)
   pub list-after : list′ ≡ placed (withPlace list a) list
 

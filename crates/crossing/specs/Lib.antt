@@ -2,5 +2,5 @@ pub mod Answers
 pub mod Numbers
 pub mod Requests
 pub mod Names
-pub mod Calls
+pub mod Laws
 pub mod Sums

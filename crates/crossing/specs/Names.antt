@@ -6,7 +6,7 @@ use mathlib.Core.List.{List, []}
 use lib.Dec.{leb}
 use lib.IntN.{ℤ, pos, negsuc}
 use lib.ListN.{length, take}
-use Rattle.refusal.specs.declared.Row.{Row}
+use Rattle.refusal.specs.declared.NameRow.{NameRow}
 use Rattle.refusal.specs.Answer.{Answer, given, refused, need, ROOM}
 use Rattle.refusal.specs.Refusals.{nameOfNumber}
 use Rattle.steps.specs.Build.{over}
@@ -31,7 +31,7 @@ pub record Spelled (name : List ℕ) (r : ℤ) (text text′ : List ℕ) : Type 
   pub text-after : text′ ≡ textAfter (fitting name text) text
 
 -- ---- a row of the code that has the answer's name, or the empty one
-pub record Naming (answer : ℤ) (row : Row) : Type 0 where
+pub record Naming (answer : ℤ) (row : NameRow) : Type 0 where
   pub narrow : row .1 ≤ 16
   pub within : row .1 ≤ length (row .2)
   pub name : take (row .1) (row .2) ≡ nameOf answer

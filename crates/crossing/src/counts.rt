@@ -4,7 +4,7 @@ ghost use mathlib.Core.Path.{_≡_};
 ghost use Rattle.refusal.specs.Answer.{then};
 ghost use Rattle.period.specs.Period.{product, timesOf};
 ghost use Rattle.date.specs.Date.{counted};
-ghost use Rattle.crossing.specs.Answers.{Placed, lengthIn};
+ghost use Rattle.crossing.specs.Answers.{FirstPlace, lengthIn};
 ghost use Rattle.crossing.specs.Numbers.{unitOf};
 use crate::NamedUnit;
 use crate::answers;
@@ -13,7 +13,7 @@ use period::Period;
 use period::Product;
 
 pub fn put_counted(d: Counted, out: &mut [i32]) -> i64
-    ensures { λ r. ⌜ Placed (counted d) r (now (out .entry)) (now (out .exit)) ⌝ }
+    ensures { λ r. ⌜ FirstPlace (counted d) r (now (out .entry)) (now (out .exit)) ⌝ }
 {
     if out.len() < 1 {
         return answers::minus(refusal::ROOM);

@@ -5,10 +5,10 @@ ghost use lib.ListN.{length, take};
 ghost use Rattle.steps.specs.Build.{over};
 ghost use Rattle.crossing.specs.Names.{nameOf, Spelled, Naming};
 use crate::answers;
-use refusal::Row;
+use refusal::NameRow;
 
 // The row of the refusal that an answer gives; one with no name where it gives none.
-fn row_of(answer: i64) -> Row
+fn row_of(answer: i64) -> NameRow
     ensures { λ r. ⌜ Naming answer r ⌝ }
 {
     let mut k = 0;
@@ -19,7 +19,7 @@ fn row_of(answer: i64) -> Row
         }
         k += 1;
     }
-    Row(0, 0, [0; 16])
+    NameRow(0, 0, [0; 16])
 }
 
 fn put_letters(name: &[u8], text: &mut [u8])

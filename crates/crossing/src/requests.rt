@@ -9,12 +9,12 @@ use date::Date;
 use period::Period;
 use steps::Request;
 
-pub enum Asked {
+pub enum FromNumbers {
     Is(Request),
     Refused(u8),
 }
 
-// Length and unit of the tenor, the convention of the last date and the anchors among them.
+// Length and unit of the tenor, the convention of the last date and the anchors among them: the eleven numbers that C hands over.
 pub fn request_of(
     effective: u32,
     termination: u32,
@@ -27,30 +27,30 @@ pub fn request_of(
     first: u32,
     penultimate: u32,
     mask: u8,
-) -> Asked
+) -> FromNumbers
     ensures { λ r. ⌜ asked r ≡ requestOf effective termination tenor unit rule convention terminal monthend first penultimate mask ⌝ }
 {
     let unit = match crate::unit_of(unit) {
         NamedUnit::Is(u) => u,
-        NamedUnit::Refused(n) => return Asked::Refused(n),
+        NamedUnit::Refused(n) => return FromNumbers::Refused(n),
     };
     let rule = match crate::rule_of(rule) {
         NamedRule::Is(r) => r,
-        NamedRule::Refused(n) => return Asked::Refused(n),
+        NamedRule::Refused(n) => return FromNumbers::Refused(n),
     };
     let convention = match crate::convention_of(convention) {
         NamedConvention::Is(c) => c,
-        NamedConvention::Refused(n) => return Asked::Refused(n),
+        NamedConvention::Refused(n) => return FromNumbers::Refused(n),
     };
     let terminal = match crate::convention_of(terminal) {
         NamedConvention::Is(t) => t,
-        NamedConvention::Refused(n) => return Asked::Refused(n),
+        NamedConvention::Refused(n) => return FromNumbers::Refused(n),
     };
     let monthend = match crate::flag_of(monthend) {
         NamedFlag::Is(m) => m,
-        NamedFlag::Refused(n) => return Asked::Refused(n),
+        NamedFlag::Refused(n) => return FromNumbers::Refused(n),
     };
-    Asked::Is(Request {
+    FromNumbers::Is(Request {
         effective: Date { day: effective },
         termination: Date { day: termination },
         tenor: Period {

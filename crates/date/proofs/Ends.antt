@@ -7,14 +7,14 @@ use native.Mathlib.Omega.{arith}
 use lib.Dec.{ltb}
 use borrow.Author.Tests.{ltb-true, ltb-false}
 use Rattle.refusal.specs.Answer.{Answer, given, refused, BOOK}
-use Rattle.refusal.specs.Laws.{then-given}
+use Rattle.refusal.specs.Laws.Answers.{then-given}
 use Rattle.date.specs.declared.Fields.{Fields}
 use Rattle.date.specs.Civil.{dayNumber, monthLength, fieldsOf, daysUntil}
 use Rattle.date.specs.Date.{makeOf, withinSpan, inMonth, lastOfMonth, nthWeekdayOf}
-use Rattle.date.specs.Months.{length-le, length-ge}
-use Rattle.date.specs.Round.{Valid}
-use Rattle.date.specs.Made.{made, made-within, make-early, make-day-over, make-ok}
-use Rattle.date.specs.Moves.{span-in, valid-at, year-at, nth-of}
+use Rattle.date.specs.Laws.Months.{length-le, length-ge}
+use Rattle.date.specs.Laws.Round.{Valid}
+use Rattle.date.specs.Laws.Made.{made, made-within, make-early, make-day-over, make-ok}
+use Rattle.date.specs.Laws.Moves.{span-in, valid-at, year-at, nth-of}
 
 -- a day up to the 28th is in every month
 pub not-over : (y m d : ℕ) → d ≤ 28 → m ≤ 12 → d ≡ min d (monthLength y m)

@@ -7,7 +7,7 @@ use lib.Dec.{eqb, lit<}
 use lib.ListN.{getD}
 use mir.Val.{boolByte}
 use borrow.Author.Tests.{eqb-true, ne-eqb}
-use Rattle.refusal.specs.Laws.{allBelow, below}
+use Rattle.refusal.specs.Laws.Answers.{allBelow, below}
 use Rattle.date.specs.Civil.{rowOf}
 
 pub flag-below : (l : Bool) → boolByte l < 2

@@ -8,7 +8,7 @@ use lib.ListN.{getD}
 use Rattle.date.specs.declared.Fields.{Fields}
 use Rattle.date.specs.declared.civil.Place.{Place}
 
-abbrev pub pickN : Bool → ℕ → ℕ → ℕ
+abbrev pub pickN : Bool → (a b : ℕ) → ℕ
 pickN true a b = a
 pickN false a b = b
 
@@ -35,7 +35,7 @@ sumTo (l ∷ ls) zero = 0
 sumTo (l ∷ ls) (suc m) = l + sumTo ls m
 
 -- the day number of a year, month and day
-unfoldable pub dayNumber : ℕ → ℕ → ℕ → ℕ
+unfoldable pub dayNumber : (y m d : ℕ) → ℕ
 dayNumber y m d = gone (y - 1) + sumTo (rowOf (leap y)) (m - 1) + d
 
 -- the whole years before day z, from 0: the mean year is 146097 / 400 days, and the quotient is at most one short

@@ -5,7 +5,7 @@ use mathlib.Core.Bool.{Bool, true, false, _&&_}
 use lib.Dec.{eqb, leb, ltb}
 use lib.IntN.{ℤ, natAbs, subℕ}
 use Rattle.refusal.specs.Answer.{Answer, given, refused, need, then, BOOK}
-use Rattle.period.specs.Signed.{isNegative}
+use Rattle.period.specs.Period.{isNegative}
 use Rattle.period.specs.declared.Unit.{Unit}
 use Rattle.period.specs.declared.Unit.the-variants.{Days, Weeks, Months, Years}
 use Rattle.date.specs.declared.Fields.{Fields}
@@ -64,7 +64,7 @@ unfoldable pub withinSpan : ℕ → Answer ℕ
 withinSpan n = need BOOK (leb SPAN-FIRST n) (need BOOK (leb n SPAN-LAST) (given n))
 
 -- ---- make and fields
-unfoldable pub makeOf : ℕ → ℕ → ℕ → Answer ℕ
+unfoldable pub makeOf : (y m d : ℕ) → Answer ℕ
 makeOf y m d =
     need BOOK (leb 1800 y)
     (need BOOK (leb y 2399)
@@ -95,18 +95,18 @@ unfoldable pub inMonth : ℕ → ℕ → Answer ℕ
 inMonth t d = makeOf (t / 12) (t % 12 + 1) (min d (monthLength (t / 12) (t % 12 + 1)))
 
 -- ---- advance: the sign says whether forwards or back, and what lies before 0 is 0
-unfoldable pub step : Bool → ℕ → ℕ → ℕ
+unfoldable pub step : Bool → (n k : ℕ) → ℕ
 step false n k = n + k
 step true n k = n - k
 
-unfoldable pub shiftDays : ℕ → Bool → ℕ → Answer ℕ
+unfoldable pub shiftDays : (n : ℕ) (back : Bool) (k : ℕ) → Answer ℕ
 shiftDays n back k = withinSpan (step back n k)
 
-unfoldable pub shiftMonths : ℕ → Bool → ℕ → Answer ℕ
+unfoldable pub shiftMonths : (n : ℕ) (back : Bool) (k : ℕ) → Answer ℕ
 shiftMonths n back k = inMonth (step back (monthIndex n) k) (fieldsOf n .day)
 
 -- a week is seven days, a year twelve months
-unfoldable pub shifted : ℕ → Bool → ℕ → Unit → Answer ℕ
+unfoldable pub shifted : (n : ℕ) (back : Bool) (k : ℕ) → Unit → Answer ℕ
 shifted n back k Days = shiftDays n back k
 shifted n back k Weeks = shiftDays n back (7 * k)
 shifted n back k Months = shiftMonths n back k
@@ -119,7 +119,7 @@ advanceOf n z u = need BOOK (inBook n) (shifted n (isNegative z) (natAbs z) u)
 unfoldable pub nextWeekdayOf : ℕ → ℕ → Answer ℕ
 nextWeekdayOf n w = need BOOK (leb 1 w) (need BOOK (leb w 7) (need BOOK (inBook n) (withinSpan (n + daysUntil n w))))
 
-unfoldable pub nthWeekdayOf : ℕ → ℕ → ℕ → ℕ → Answer ℕ
+unfoldable pub nthWeekdayOf : (n w m y : ℕ) → Answer ℕ
 nthWeekdayOf n w m y =
     need BOOK (leb 1 w)
     (need BOOK (leb w 7)

@@ -1,10 +1,4 @@
 pub mod Civil
 pub mod Date
-pub mod Years
-pub mod Months
-pub mod Round
-pub mod Made
-pub mod Moves
-pub mod Order
-pub mod Weekdays
+pub mod Laws
 pub mod Sums

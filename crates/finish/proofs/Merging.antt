@@ -11,7 +11,7 @@ use lib.Dec.{leb}
 use borrow.Author.Tests.{le-leb, lt-leb}
 use borrow.Author.Needs.{needs}
 use Rattle.refusal.specs.Answer.{COLLAPSED}
-use Rattle.refusal.specs.Laws.{fails, holds}
+use Rattle.refusal.specs.Laws.Answers.{fails, holds}
 use Rattle.steps.specs.Finish.{Merged, mergeEnd, mergeEndIf, meetAtEnd, mergeFront, mergeFrontIf, meetAtFront, sameFlag}
 use Rattle.finish.specs.declared.merges.Start.the-variants.{At, Refused}
 use Rattle.finish.specs.Ends.{EndMerged, leftFrom, Short, FrontMerged}

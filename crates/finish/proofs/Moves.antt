@@ -17,12 +17,12 @@ use Rattle.date.specs.declared.Date.{Date}
 use Rattle.date.specs.declared.Dated.{Dated}
 use Rattle.date.specs.declared.Dated.the-variants as dated-is
 use Rattle.date.specs.Date.{dated}
-use Rattle.date.specs.Made.{given-day, refused-day}
+use Rattle.date.specs.Laws.Made.{given-day, refused-day}
 use Rattle.calendar.specs.declared.Convention.{Convention}
 use Rattle.calendar.specs.declared.Decided.{Decided}
 use Rattle.calendar.specs.declared.Decided.the-variants as decided-is
 use Rattle.calendar.specs.Open.{closedOk}
-use Rattle.calendar.specs.Always.{conventionOn, on-as}
+use Rattle.calendar.specs.Inner.Always.{conventionOn, on-as}
 use Rattle.calendar.specs.Adjust.{adjusted}
 use Rattle.calendar.specs.Calendar.{decided}
 use Rattle.steps.specs.declared.Move.{Move}
@@ -31,10 +31,10 @@ use Rattle.steps.specs.declared.Rule.{Rule}
 use Rattle.steps.specs.declared.Rule.the-variants.{ThirdWednesday, ThirdWednesdayInclusive}
 use Rattle.steps.specs.declared.Request.{Request}
 use Rattle.steps.specs.Rules.{rules, ruleNumber, oneOf}
-use Rattle.steps.specs.RuleLaws.{agree, keep, keysOf, tagsAre, told}
+use Rattle.steps.specs.Laws.Rules.{agree, keep, keysOf, tagsAre, told}
 use Rattle.steps.proofs.Rule.{the-type}
 use Rattle.steps.specs.Finish.{moved, each, between, onFirst, onLast, onMiddle, firstMove, lastMove, middleMove, seedAtEnd, wednesdaysBy, wednesdays}
-use Rattle.steps.specs.Fewer.{settles, middleUnless, lastAndMiddle, fewAdjustments}
+use Rattle.steps.specs.Fewer.Steps.{settles, middleUnless, lastAndMiddle, fewAdjustments}
 use Rattle.finish.specs.declared.moving.Done.{Done}
 use Rattle.finish.specs.declared.moving.Done.the-variants.{Whole, Refused}
 use Rattle.finish.specs.Moving.{done}

@@ -1,6 +1,6 @@
 -- What the two merges leave in the part of the working lists that holds the schedule, and what is copied out.
 -- Assumes nothing.
-use Prim.Native.Nat.{ℕ, _-_, _≤_}
+use Prim.Native.Nat.{ℕ, _-_, _≤_, _<_}
 use mathlib.Core.Path.{_≡_}
 use mathlib.Core.List.{List}
 use lib.ListN.{length, take, drop}
@@ -8,6 +8,8 @@ use Rattle.refusal.specs.Answer.{Answer, given, refused}
 use Rattle.steps.specs.Finish.{Merged, mergeEnd, mergeFront}
 use Rattle.finish.specs.declared.merges.Start.{Start}
 use Rattle.finish.specs.declared.merges.Start.the-variants.{At, Refused}
+use Rattle.finish.specs.declared.merges.Left.{Left}
+use Rattle.finish.specs.declared.merges.Left.the-variants as left-is
 
 -- the first r dates, and the flags between them, are those of the merge at the end
 pub record EndMerged (ds fs : List ℕ) (r : ℕ) (ds′ fs′ : List ℕ) : Type 0 where
@@ -28,3 +30,21 @@ Short (Refused m) n = Unit {0}
 pub record FrontMerged (ds fs : List ℕ) (r : Start) (ds′ fs′ : List ℕ) : Type 0 where
   pub says : leftFrom r ds′ fs′ ≡ mergeFront (record { dates = ds; flags = fs })
   pub short : Short r (length ds)
+
+-- the dates from a place up to another, and the flags between them
+abbrev pub partOf : ℕ → ℕ → List ℕ → List ℕ → Merged
+partOf from to ds fs =
+    record { dates = take (to - from) (drop from ds); flags = take (to - 1 - from) (drop from fs) }
+
+-- what both merges leave
+unfoldable pub leftOf : Left → List ℕ → List ℕ → Answer Merged
+leftOf (left-is.Part from to) ds fs = given (partOf from to ds fs)
+leftOf (left-is.Refused n) ds fs = refused n
+
+unfoldable pub Within : Left → ℕ → Type 0
+Within (left-is.Part from to) n = (from < to) × (to ≤ n)
+Within (left-is.Refused m) n = Unit {0}
+
+pub record Merges (ds fs : List ℕ) (r : Left) (ds′ fs′ : List ℕ) : Type 0 where
+  pub says : leftOf r ds′ fs′ ≡ mergeFront (mergeEnd ds fs)
+  pub within : Within r (length ds)

@@ -12,7 +12,7 @@ use Rattle.steps.specs.declared.Request.{Request}
 use Rattle.steps.specs.declared.Built.{Built}
 use Rattle.steps.specs.Rules.{ruleInForce, tenorInForce}
 use Rattle.steps.specs.Finish.{Merged, mergeEnd, mergeFront}
-use Rattle.steps.specs.Fewer.{keptFinish}
+use Rattle.steps.specs.Fewer.Steps.{keptFinish}
 use Rattle.steps.specs.Build.{Schedule}
 
 -- the generated dates, the flags between them, and room for both

@@ -1,4 +1,4 @@
 pub mod Ends
 pub mod Moving
 pub mod Finishing
-pub mod Lending
+pub mod Laws

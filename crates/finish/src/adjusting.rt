@@ -5,8 +5,8 @@ ghost use Prim.Native.Nat.{_≤_};
 ghost use lib.ListN.{length};
 ghost use Rattle.calendar.specs.Open.{closedOk};
 ghost use Rattle.steps.specs.Finish.{moved, onFirst, onLast, onMiddle, wednesdays};
-ghost use Rattle.steps.specs.Fewer.{settles, middleUnless, lastAndMiddle, fewAdjustments};
-ghost use Rattle.finish.specs.Moving.{done};
+ghost use Rattle.steps.specs.Fewer.Steps.{settles, middleUnless, lastAndMiddle, fewAdjustments};
+ghost use Rattle.finish.specs.Moving.{done, movedAll};
 use crate::moving;
 use crate::moving::Done;
 use calendar::Decided;
@@ -44,7 +44,7 @@ fn move_last(dates: &mut [u32], what: Move, mask: u8, closed: &[u32]) -> Done
     moving::move_between(dates, n - 1, n, what, mask, closed)
 }
 
-pub(crate) fn third_wednesdays(rule: Rule, mask: u8, closed: &[u32], dates: &mut [u32]) -> Done
+fn third_wednesdays(rule: Rule, mask: u8, closed: &[u32], dates: &mut [u32]) -> Done
     ensures { λ r. ⌜ (closedOk (now (closed .entry)) ≡ true → done r (now (dates .exit)) ≡ wednesdays rule mask (now (closed .entry)) (now (dates .entry))) ⌝ }
 {
     match rule {
@@ -89,13 +89,25 @@ fn adjust_last(q: Request, closed: &[u32], seed: u32, dates: &mut [u32]) -> Done
     }
 }
 
-pub(crate) fn adjust_dates(q: Request, closed: &[u32], seed: u32, dates: &mut [u32]) -> Done
+fn adjust_dates(q: Request, closed: &[u32], seed: u32, dates: &mut [u32]) -> Done
     requires { ⌜ 1 ≤ length (now dates) ⌝ }
     ensures { λ r. ⌜ (closedOk (now (closed .entry)) ≡ true → done r (now (dates .exit)) ≡ fewAdjustments q (now (closed .entry)) seed (now (dates .entry))) ⌝ }
 {
     let moved = move_first(dates, moves::first_move(q), q.mask, closed);
     match moved {
         Done::Whole => adjust_last(q, closed, seed, dates),
+        Done::Refused(n) => Done::Refused(n),
+    }
+}
+
+// All that moves dates: third Wednesdays, then the adjustments.
+pub(crate) fn move_dates(q: Request, closed: &[u32], seed: u32, dates: &mut [u32]) -> Done
+    requires { ⌜ 1 ≤ length (now dates) ⌝ }
+    ensures { λ r. ⌜ (closedOk (now (closed .entry)) ≡ true → done r (now (dates .exit)) ≡ movedAll q (now (closed .entry)) seed (now (dates .entry))) ⌝ }
+{
+    let moved = third_wednesdays(rules::rule_in_force(q), q.mask, closed, dates);
+    match moved {
+        Done::Whole => adjust_dates(q, closed, seed, dates),
         Done::Refused(n) => Done::Refused(n),
     }
 }

@@ -1,14 +1,13 @@
 // A build's last steps: third Wednesdays, adjustments, merges, and writing out.
 ghost use mathlib.Core.Path.{_≡_};
 ghost use mathlib.Core.Bool.{true};
+ghost use Prim.Native.Nat.{_≤_, _<_};
 ghost use lib.ListN.{length};
-ghost use Rattle.refusal.specs.Answer.{then};
 ghost use Rattle.calendar.specs.Open.{closedOk};
-ghost use Rattle.steps.specs.Finish.{mergeEnd, mergeFront};
-ghost use Rattle.steps.specs.Fewer.{fewAdjustments, keptFinish};
 ghost use Rattle.steps.specs.Build.{Written};
-ghost use Rattle.finish.specs.Finishing.{acceptedBuilt, pair, scheduled, merges, Lent, lentRefusal, completed};
-use crate::merges::Start;
+ghost use Rattle.finish.specs.Finishing.{acceptedBuilt, scheduled, Lent, lentRefusal, completed};
+ghost use Rattle.finish.specs.Ends.{partOf};
+use crate::merges::Left;
 use crate::moving::Done;
 use steps::Built;
 use steps::Request;
@@ -36,95 +35,26 @@ fn accepted(q: Request, count: u32, tries: u32) -> Built
     }
 }
 
-// The lists of the schedule, `work` and `marks`, written out.
+// The schedule written out: the dates from a place up to another, and the flags between them.
 fn copy_out(
     q: Request,
     tries: u32,
+    from: usize,
+    to: usize,
     work: &[u32],
     marks: &[u8],
     dates: &mut [u32],
     flags: &mut [u8],
 ) -> Built
     requires { ⌜ Lent (now work) (now marks) (now dates) (now flags) ⌝ }
-    ensures { λ r. ⌜ Written q (scheduled tries (pair (now (work .entry)) (now (marks .entry)))) r (now (dates .entry)) (now (flags .entry)) (now (dates .exit)) (now (flags .exit)) ⌝ }
+    requires { ⌜ (from < to) × (to ≤ length (now work)) ⌝ }
+    ensures { λ r. ⌜ Written q (scheduled tries (partOf from to (now (work .entry)) (now (marks .entry)))) r (now (dates .entry)) (now (flags .entry)) (now (dates .exit)) (now (flags .exit)) ⌝ }
 {
-    copies::copy_dates(work, dates);
-    copies::copy_flags(marks, flags);
-    accepted(q, work.len() as u32, tries)
-}
-
-fn merge_front_and_copy(
-    q: Request,
-    tries: u32,
-    work: &mut [u32],
-    marks: &mut [u8],
-    dates: &mut [u32],
-    flags: &mut [u8],
-) -> Built
-    requires { ⌜ Lent (now work) (now marks) (now dates) (now flags) ⌝ }
-    ensures { λ r. ⌜ Written q (then (mergeFront (pair (now (work .entry)) (now (marks .entry)))) (scheduled tries)) r (now (dates .entry)) (now (flags .entry)) (now (dates .exit)) (now (flags .exit)) ⌝ }
-{
-    let start = merges::merge_front(work, marks);
-    match start {
-        Start::Refused(n) => refused(n),
-        Start::At(k) => copy_out(q, tries, &work[k..], &marks[k..], dates, flags),
-    }
-}
-
-fn merge_and_copy(
-    q: Request,
-    tries: u32,
-    work: &mut [u32],
-    marks: &mut [u8],
-    dates: &mut [u32],
-    flags: &mut [u8],
-) -> Built
-    requires { ⌜ Lent (now work) (now marks) (now dates) (now flags) ⌝ }
-    ensures { λ r. ⌜ Written q (then (mergeFront (mergeEnd (now (work .entry)) (now (marks .entry)))) (scheduled tries)) r (now (dates .entry)) (now (flags .entry)) (now (dates .exit)) (now (flags .exit)) ⌝ }
-{
-    let n = merges::merge_end(work, marks);
-    let e = n - 1;
-    merge_front_and_copy(q, tries, &mut work[..n], &mut marks[..e], dates, flags)
-}
-
-fn adjust_and_merge(
-    q: Request,
-    closed: &[u32],
-    seed: u32,
-    tries: u32,
-    work: &mut [u32],
-    marks: &mut [u8],
-    dates: &mut [u32],
-    flags: &mut [u8],
-) -> Built
-    requires { ⌜ Lent (now work) (now marks) (now dates) (now flags) ⌝ }
-    ensures { λ r. ⌜ (closedOk (now (closed .entry)) ≡ true → Written q (then (then (fewAdjustments q (now (closed .entry)) seed (now (work .entry))) (merges (now (marks .entry)))) (scheduled tries)) r (now (dates .entry)) (now (flags .entry)) (now (dates .exit)) (now (flags .exit))) ⌝ }
-{
-    let moved = adjusting::adjust_dates(q, closed, seed, work);
-    match moved {
-        Done::Refused(n) => refused(n),
-        Done::Whole => merge_and_copy(q, tries, work, marks, dates, flags),
-    }
-}
-
-fn complete_lent(
-    q: Request,
-    closed: &[u32],
-    seed: u32,
-    tries: u32,
-    work: &mut [u32],
-    marks: &mut [u8],
-    dates: &mut [u32],
-    flags: &mut [u8],
-) -> Built
-    requires { ⌜ Lent (now work) (now marks) (now dates) (now flags) ⌝ }
-    ensures { λ r. ⌜ (closedOk (now (closed .entry)) ≡ true → Written q (then (keptFinish q (now (closed .entry)) seed (now (work .entry)) (now (marks .entry))) (scheduled tries)) r (now (dates .entry)) (now (flags .entry)) (now (dates .exit)) (now (flags .exit))) ⌝ }
-{
-    let moved = adjusting::third_wednesdays(rules::rule_in_force(q), q.mask, closed, work);
-    match moved {
-        Done::Refused(n) => refused(n),
-        Done::Whole => adjust_and_merge(q, closed, seed, tries, work, marks, dates, flags),
-    }
+    let last = to - 1;
+    copies::copy_dates(&work[from..to], dates);
+    copies::copy_flags(&marks[from..last], flags);
+    let count = to - from;
+    accepted(q, count as u32, tries)
 }
 
 // 1 where the lists do not belong together, 14 where the dates do not fit, else 0.
@@ -166,5 +96,13 @@ pub fn complete(
     if number != 0 {
         return refused(number);
     }
-    complete_lent(q, closed, seed, tries, work, marks, dates, flags)
+    let moved = adjusting::move_dates(q, closed, seed, work);
+    if let Done::Refused(n) = moved {
+        return refused(n);
+    }
+    let left = merges::merge(work, marks);
+    match left {
+        Left::Refused(n) => refused(n),
+        Left::Part { from, to } => copy_out(q, tries, from, to, work, marks, dates, flags),
+    }
 }

@@ -2,17 +2,23 @@
 ghost use mathlib.Core.Path.{_≡_};
 ghost use Prim.Native.Nat.{_+_};
 ghost use lib.ListN.{length};
-ghost use Rattle.finish.specs.Ends.{EndMerged, FrontMerged};
+ghost use Rattle.finish.specs.Ends.{EndMerged, FrontMerged, Merges};
 use steps::flags::same_flag;
 
 // Where the list starts after the merge at the front.
-pub(crate) enum Start {
+enum Start {
     At(usize),
     Refused(u8),
 }
 
+// What is left after both merges: the dates from a place up to another, and the flags between them.
+pub(crate) enum Left {
+    Part { from: usize, to: usize },
+    Refused(u8),
+}
+
 // The last date takes the place of one that is not before it. Answers how many dates are left.
-pub(crate) fn merge_end(dates: &mut [u32], flags: &mut [u8]) -> usize
+fn merge_end(dates: &mut [u32], flags: &mut [u8]) -> usize
     requires { ⌜ length (now dates) ≡ length (now flags) + 1 ⌝ }
     ensures { λ r. ⌜ EndMerged (now (dates .entry)) (now (flags .entry)) r (now (dates .exit)) (now (flags .exit)) ⌝ }
 {
@@ -34,7 +40,7 @@ pub(crate) fn merge_end(dates: &mut [u32], flags: &mut [u8]) -> usize
 }
 
 // The first date takes the place of one that is not after it. Answers where the list then starts, or refusal 15.
-pub(crate) fn merge_front(dates: &mut [u32], flags: &mut [u8]) -> Start
+fn merge_front(dates: &mut [u32], flags: &mut [u8]) -> Start
     requires { ⌜ length (now dates) ≡ length (now flags) + 1 ⌝ }
     ensures { λ r. ⌜ FrontMerged (now (dates .entry)) (now (flags .entry)) r (now (dates .exit)) (now (flags .exit)) ⌝ }
 {
@@ -52,4 +58,18 @@ pub(crate) fn merge_front(dates: &mut [u32], flags: &mut [u8]) -> Start
     flags[1] = same_flag(next, first);
     dates[1] = first;
     Start::At(1)
+}
+
+// The merge at the end, then the one at the front.
+pub(crate) fn merge(dates: &mut [u32], flags: &mut [u8]) -> Left
+    requires { ⌜ length (now dates) ≡ length (now flags) + 1 ⌝ }
+    ensures { λ r. ⌜ Merges (now (dates .entry)) (now (flags .entry)) r (now (dates .exit)) (now (flags .exit)) ⌝ }
+{
+    let to = merge_end(dates, flags);
+    let last = to - 1;
+    let start = merge_front(&mut dates[..to], &mut flags[..last]);
+    match start {
+        Start::Refused(n) => Left::Refused(n),
+        Start::At(from) => Left::Part { from, to },
+    }
 }

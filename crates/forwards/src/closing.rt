@@ -1,31 +1,34 @@
 // The last dates of a forward build: the next-to-last date where the loop ended at it, and termination or its twentieth.
 ghost use mathlib.Core.Bool.{false};
-ghost use Rattle.steps.specs.Generate.{newest, putClosing, closing, shut, forwardEnd};
-ghost use Rattle.working.specs.Part.{Part, Begun, held, Filling};
-ghost use Rattle.working.specs.Turning.{Front};
-ghost use Rattle.working.specs.Making.{Generates};
+ghost use Rattle.steps.specs.Generate.{putClosing, closing, shut, forwardEnd};
+ghost use Rattle.working.specs.Part.{working, Part, Begun, held, Fills};
+ghost use Rattle.working.specs.Turning.{Ahead};
+ghost use Rattle.working.specs.Making.{Makes};
 use calendar::search;
 use date::Dated;
 use steps::Request;
 use steps::rules;
 use steps::twentieths;
+use working::Adjusting;
 use working::Filled;
 use working::Generated;
+use working::Piece;
+use working::Tip;
 use working::adds;
 use working::adds::Added;
 use working::lists;
 
 // Termination, or its twentieth for the rules on twentieths.
 fn put_closing(q: Request, room: usize, n: usize, work: &mut [u32], marks: &mut [u8]) -> Filled
-    ensures { λ r. ⌜ (Part room n (now (work .entry)) (now (marks .entry)) → Filling false room (putClosing false q room (held false n (now (work .entry)) (now (marks .entry)))) r (now (work .exit)) (now (marks .exit))) ⌝ }
+    ensures { λ r. ⌜ Fills (Part room) false room (putClosing false q room) n (working (now (work .entry)) (now (marks .entry))) r (working (now (work .exit)) (now (marks .exit))) ⌝ }
 {
     let rule = q.rule;
     if rules::on_twentieths(rule) {
-        let next = twentieths::next(q.termination.day, rule);
-        match next {
+        let next = match twentieths::next(q.termination.day, rule) {
             Dated::Refused(k) => return Filled::Refused(k),
-            Dated::Day(d) => return lists::put(false, n, room, d.day, 1, work, marks),
-        }
+            Dated::Day(d) => d,
+        };
+        return lists::put(false, n, room, next.day, 1, work, marks);
     }
     lists::put(false, n, room, q.termination.day, 0, work, marks)
 }
@@ -39,26 +42,22 @@ fn close(
     work: &mut [u32],
     marks: &mut [u8],
 ) -> Filled
-    ensures { λ r. ⌜ (Begun (now (closed .entry)) room n (now (work .entry)) (now (marks .entry)) → Filling false room (closing q (now (closed .entry)) room (held false n (now (work .entry)) (now (marks .entry)))) r (now (work .exit)) (now (marks .exit))) ⌝ }
+    ensures { λ r. ⌜ Fills (Begun (now (closed .entry)) room) false room (closing q (now (closed .entry)) room) n (working (now (work .entry)) (now (marks .entry))) r (working (now (work .exit)) (now (marks .exit))) ⌝ }
 {
     let terminal = q.terminal;
     let newest = lists::newest(false, n, work);
-    let last = search::adjust(newest, terminal, q.mask, closed);
-    match last {
-        Dated::Refused(k) => Filled::Refused(k),
-        Dated::Day(a) => {
-            let moved = search::adjust(q.termination.day, terminal, q.mask, closed);
-            match moved {
-                Dated::Refused(k) => Filled::Refused(k),
-                Dated::Day(b) => {
-                    if a.day == b.day {
-                        return Filled::Ready(n);
-                    }
-                    put_closing(q, room, n, work, marks)
-                }
-            }
-        }
+    let a = match search::adjust(newest, terminal, q.mask, closed) {
+        Dated::Refused(k) => return Filled::Refused(k),
+        Dated::Day(a) => a,
+    };
+    let b = match search::adjust(q.termination.day, terminal, q.mask, closed) {
+        Dated::Refused(k) => return Filled::Refused(k),
+        Dated::Day(b) => b,
+    };
+    if a.day == b.day {
+        return Filled::Ready(n);
     }
+    put_closing(q, room, n, work, marks)
 }
 
 // The next-to-last date where the loop ended at it, then the last date.
@@ -66,30 +65,23 @@ fn shut(
     q: Request,
     closed: &[u32],
     room: usize,
-    n: usize,
-    front: u32,
+    tip: Tip,
     work: &mut [u32],
     marks: &mut [u8],
 ) -> Filled
-    ensures { λ r. ⌜ (Begun (now (closed .entry)) room n (now (work .entry)) (now (marks .entry)) → Front (q .mask) (now (closed .entry)) (q .convention) front (newest (held false n (now (work .entry)) (now (marks .entry)))) → Filling false room (shut q (now (closed .entry)) room (held false n (now (work .entry)) (now (marks .entry)))) r (now (work .exit)) (now (marks .exit))) ⌝ }
+    ensures { λ r. ⌜ Fills (λ _ w. Ahead (q .mask) (now (closed .entry)) (q .convention) false room w tip) false room (shut q (now (closed .entry)) room) (tip .n) (working (now (work .entry)) (now (marks .entry))) r (working (now (work .exit)) (now (marks .exit))) ⌝ }
 {
     let convention = q.convention;
-    let anchored = adds::put_anchor(
-        false,
-        n,
-        room,
-        q.penultimate.day,
-        front,
+    let adjusting = Adjusting {
         convention,
-        q.mask,
-        closed,
-        work,
-        marks,
-    );
-    match anchored {
-        Added::Refused(k) => Filled::Refused(k),
-        Added::Ready { n: m, front: _ } => close(q, closed, room, m, work, marks),
-    }
+        mask: q.mask,
+    };
+    let anchor = q.penultimate.day;
+    let last = match adds::put_anchor(false, room, tip, anchor, adjusting, closed, work, marks) {
+        Added::Refused(k) => return Filled::Refused(k),
+        Added::Ready(t) => t,
+    };
+    close(q, closed, room, last.n, work, marks)
 }
 
 // What is left once the loop has ended.
@@ -97,24 +89,23 @@ pub(crate) fn forward_end(
     q: Request,
     closed: &[u32],
     room: usize,
-    n: usize,
-    front: u32,
+    tip: Tip,
     tries: u32,
     seed: u32,
     work: &mut [u32],
     marks: &mut [u8],
 ) -> Generated
-    ensures { λ r. ⌜ (Begun (now (closed .entry)) room n (now (work .entry)) (now (marks .entry)) → Front (q .mask) (now (closed .entry)) (q .convention) front (newest (held false n (now (work .entry)) (now (marks .entry)))) → Generates room (forwardEnd q (now (closed .entry)) room tries seed (held false n (now (work .entry)) (now (marks .entry)))) r (now (work .exit)) (now (marks .exit))) ⌝ }
+    ensures { λ r. ⌜ Makes (Ahead (q .mask) (now (closed .entry)) (q .convention) false room (working (now (work .entry)) (now (marks .entry))) tip) room (forwardEnd q (now (closed .entry)) room tries seed (held false (tip .n) (working (now (work .entry)) (now (marks .entry))))) r (working (now (work .exit)) (now (marks .exit))) ⌝ }
 {
-    let last = shut(q, closed, room, n, front, work, marks);
-    match last {
-        Filled::Refused(k) => Generated::Refused(k),
-        Filled::Ready(m) => Generated::Ready {
-            from: 0,
-            marked: 1,
-            n: m,
-            tries,
-            seed,
-        },
-    }
+    let n = match shut(q, closed, room, tip, work, marks) {
+        Filled::Refused(k) => return Generated::Refused(k),
+        Filled::Ready(n) => n,
+    };
+    Generated::Ready(Piece {
+        from: 0,
+        marked: 1,
+        n,
+        tries,
+        seed,
+    })
 }

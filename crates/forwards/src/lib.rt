@@ -1,11 +1,13 @@
 // Forward builds, and those on twentieths and third Wednesdays: from the effective date on to termination.
 ghost use Rattle.steps.specs.Generate.{forwardFrom, forward};
-ghost use Rattle.working.specs.Part.{Part, Begun};
-ghost use Rattle.working.specs.Making.{Checked, Generates};
-ghost use Rattle.forwards.specs.Opened.{opening};
+ghost use Rattle.working.specs.Part.{working, Begun};
+ghost use Rattle.opening.specs.Opening.{opening};
+ghost use Rattle.working.specs.Making.{Checked, Blank, Makes};
 use opening::Opening;
 use steps::Request;
 use steps::seeds;
+use working::Adjusting;
+use working::Course;
 use working::Generated;
 use working::candidates;
 use working::walks;
@@ -24,41 +26,27 @@ fn forward_from(
     work: &mut [u32],
     marks: &mut [u8],
 ) -> Generated
-    ensures { λ r. ⌜ (Checked q (now (closed .entry)) → Begun (now (closed .entry)) room n (now (work .entry)) (now (marks .entry)) → Generates room (forwardFrom q (now (closed .entry)) room (opening n day (now (work .entry)) (now (marks .entry)))) r (now (work .exit)) (now (marks .exit))) ⌝ }
+    ensures { λ r. ⌜ Makes (Checked q (now (closed .entry)) × Begun (now (closed .entry)) room n (working (now (work .entry)) (now (marks .entry)))) room (forwardFrom q (now (closed .entry)) room (opening (working (now (work .entry)) (now (marks .entry))) (n, day))) r (working (now (work .exit)) (now (marks .exit))) ⌝ }
 {
     let tenor = q.tenor;
     let convention = q.convention;
     let pace = candidates::pace_of(tenor);
-    let exit = seeds::anchor_or(q.penultimate.day, q.termination.day);
-    let seed = seeds::seed_of(q.monthend, day);
-    let settled = false;
-    let walked = walks::walk(
-        settled,
-        false,
+    let course = Course {
+        settled: false,
         pace,
-        seed,
-        exit,
+        seed: seeds::seed_of(q.monthend, day),
+        exit: seeds::anchor_or(q.penultimate.day, q.termination.day),
+    };
+    let adjusting = Adjusting {
         convention,
-        q.mask,
-        closed,
-        n,
-        room,
-        work,
-        marks,
-    );
+        mask: q.mask,
+    };
+    let walked = walks::walk(course, false, room, adjusting, closed, n, work, marks);
     match walked {
         Walked::Refused(k) => Generated::Refused(k),
-        Walked::Ready { n: m, tries, front } => closing::forward_end(
-            q,
-            closed,
-            room,
-            m,
-            front,
-            tries,
-            day,
-            work,
-            marks,
-        ),
+        Walked::Ready { tip, tries } => {
+            closing::forward_end(q, closed, room, tip, tries, day, work, marks)
+        }
     }
 }
 
@@ -70,7 +58,7 @@ pub fn forward(
     work: &mut [u32],
     marks: &mut [u8],
 ) -> Generated
-    ensures { λ r. ⌜ (Checked q (now (closed .entry)) → Part room 0 (now (work .entry)) (now (marks .entry)) → Generates room (forward q (now (closed .entry)) room) r (now (work .exit)) (now (marks .exit))) ⌝ }
+    ensures { λ r. ⌜ Makes (Blank q (now (closed .entry)) room (working (now (work .entry)) (now (marks .entry)))) room (forward q (now (closed .entry)) room) r (working (now (work .exit)) (now (marks .exit))) ⌝ }
 {
     let opened = opening::open_forward(q, closed, room, work, marks);
     match opened {

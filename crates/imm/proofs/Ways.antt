@@ -12,14 +12,14 @@ use lib.Seq.{drop-cons}
 use borrow.Author.Needs.{needs}
 use borrow.Author.Tests.{le-leb, lt-leb, lt-ltb, le-ltb, eq-eqb, ne-eqb, leb-true, eqb-true}
 use Rattle.refusal.specs.Answer.{Answer, given, refused}
-use Rattle.refusal.specs.Laws.{then-given, then-refused, both}
+use Rattle.refusal.specs.Laws.Answers.{then-given, then-refused, both}
 use Rattle.date.specs.declared.Fields.{Fields}
 use Rattle.date.specs.declared.Date.{Date}
 use Rattle.date.specs.declared.Dated.{Dated}
 use Rattle.date.specs.declared.Dated.the-variants.{Day, Refused}
 use Rattle.date.specs.Civil.{fieldsOf, weekdayOf}
 use Rattle.date.specs.Date.{dated}
-use Rattle.date.specs.Made.{given-day, refused-day}
+use Rattle.date.specs.Laws.Made.{given-day, refused-day}
 use Rattle.imm.specs.declared.codes.Code.{Code}
 use Rattle.imm.specs.Imm.{mainMonth, inCycle, isImm, thirdWednesday, thirdOf, orElse, stride, nextFrom, letters, upper, placeIn, monthOf, isDigit, isPair, isCode, codeOf, dateFrom}
 

@@ -62,7 +62,7 @@ stride false = 1
 stride true = 3
 
 -- the earliest IMM date after day n: that of the cycle's coming month, or of the one after it
-unfoldable pub nextFrom : Bool → ℕ → ℕ → Answer ℕ
+unfoldable pub nextFrom : (main : Bool) (n t : ℕ) → Answer ℕ
 nextFrom main n t = then (thirdOf t) (λ d. orElse (ltb n d) d (thirdOf (t + stride main)))
 
 unfoldable pub nextOf : Bool → ℕ → Answer ℕ
@@ -91,7 +91,7 @@ monthOf b = placeIn (upper b) letters + 1
 unfoldable pub isDigit : ℕ → Bool
 isDigit b = leb 48 b && leb b 57
 
-unfoldable pub isPair : Bool → ℕ → ℕ → Bool
+unfoldable pub isPair : (main : Bool) (letter digit : ℕ) → Bool
 isPair main letter digit = leb (monthOf letter) 12 && isDigit digit && inCycle main (monthOf letter)
 
 -- two bytes: a month's letter, either case, and a digit
@@ -116,17 +116,17 @@ codeIn n = need BOOK (inBook n) (need CODE (isImm false n) (given (codeOf n)))
 unfoldable pub firstYear : ℕ → ℕ → ℕ
 firstYear y g = y + (g + 10 - y % 10) % 10
 
-unfoldable pub dateFrom : ℕ → ℕ → ℕ → Answer ℕ
+unfoldable pub dateFrom : (m y n : ℕ) → Answer ℕ
 dateFrom m y n = then (thirdWednesday m y) (λ d. orElse (leb n d) d (thirdWednesday m (y + 10)))
 
-unfoldable pub dateOf : ℕ → ℕ → ℕ → Answer ℕ
+unfoldable pub dateOf : (m g n : ℕ) → Answer ℕ
 dateOf m g n = dateFrom m (firstYear (fieldsOf n .year) g) n
 
 unfoldable pub dateIn : List ℕ → ℕ → Answer ℕ
 dateIn s n = need BOOK (inBook n) (need CODE (isCode false s) (dateOf (codeMonth s) (codeDigit s) n))
 
 -- ---- on from there
-unfoldable pub nextWithCode : List ℕ → Bool → ℕ → Answer ℕ
+unfoldable pub nextWithCode : (s : List ℕ) (main : Bool) (n : ℕ) → Answer ℕ
 nextWithCode s main n = then (dateIn s n) (nextOf main)
 
 unfoldable pub codeAfter : Answer ℕ → Answer Code
@@ -135,5 +135,5 @@ codeAfter a = then a (λ d. given (codeOf d))
 unfoldable pub nextCodeIn : Bool → ℕ → Answer Code
 nextCodeIn main n = codeAfter (nextIn main n)
 
-unfoldable pub nextCodeWithCode : List ℕ → Bool → ℕ → Answer Code
+unfoldable pub nextCodeWithCode : (s : List ℕ) (main : Bool) (n : ℕ) → Answer Code
 nextCodeWithCode s main n = codeAfter (nextWithCode s main n)

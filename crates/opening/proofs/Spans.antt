@@ -5,9 +5,9 @@ use mathlib.Core.Bool.{Bool, true, false}
 use Prim.Native.Nat.{ℕ, _≤_}
 use lib.Dec.{ltb}
 use Rattle.refusal.specs.Answer.{given, then}
-use Rattle.refusal.specs.Laws.{then-stepped}
+use Rattle.refusal.specs.Laws.Answers.{then-stepped}
 use Rattle.date.specs.Date.{SPAN-FIRST, SPAN-LAST, makeOf, inMonth, shiftMonths}
-use Rattle.date.specs.Made.{made, made-within}
+use Rattle.date.specs.Laws.Made.{made, made-within}
 use Rattle.steps.specs.declared.Rule.{Rule}
 use Rattle.steps.specs.Rules.{inImmMonths}
 use Rattle.steps.specs.Twentieths.{twentiethOf, movedIf, toImmMonth, nextTwentieth}

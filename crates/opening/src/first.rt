@@ -1,10 +1,8 @@
 // The first date of a forward build, for CDS and CDS2015 a twentieth with perhaps another one before it.
-ghost use mathlib.Core.Path.{_≡_};
 ghost use mathlib.Core.Bool.{true, false};
 ghost use Rattle.refusal.specs.Answer.{then};
-ghost use Rattle.calendar.specs.Open.{closedOk};
 ghost use Rattle.steps.specs.Generate.{put, putEarlier, creditOpening, opening};
-ghost use Rattle.working.specs.Part.{Part, Filling};
+ghost use Rattle.working.specs.Part.{working, Part, Fresh, Fills};
 use calendar::search;
 use date::Dated;
 use date::span;
@@ -17,13 +15,13 @@ use working::lists;
 
 // The twentieth three months earlier, then the twentieth.
 fn open_earlier(room: usize, day: u32, work: &mut [u32], marks: &mut [u8]) -> Filled
-    ensures { λ r. ⌜ (Part room 0 (now (work .entry)) (now (marks .entry)) → Filling false room (then (putEarlier true room day) (put room day 1)) r (now (work .exit)) (now (marks .exit))) ⌝ }
+    ensures { λ r. ⌜ Fills (Part room) false room (λ _. then (putEarlier true room day) (put room day 1)) 0 (working (now (work .entry)) (now (marks .entry))) r (working (now (work .exit)) (now (marks .exit))) ⌝ }
 {
-    let earlier = span::shift_by(day, true, 3, Unit::Months);
-    match earlier {
-        Dated::Refused(k) => Filled::Refused(k),
-        Dated::Day(d) => lists::put_two(false, room, d.day, day, work, marks),
-    }
+    let earlier = match span::shift_by(day, true, 3, Unit::Months) {
+        Dated::Refused(k) => return Filled::Refused(k),
+        Dated::Day(d) => d,
+    };
+    lists::put_two(false, room, earlier.day, day, work, marks)
 }
 
 // The previous twentieth, behind an earlier one where it adjusts past the effective date.
@@ -35,19 +33,17 @@ fn open_credit(
     work: &mut [u32],
     marks: &mut [u8],
 ) -> Filled
-    ensures { λ r. ⌜ (closedOk (now (closed .entry)) ≡ true → Part room 0 (now (work .entry)) (now (marks .entry)) → Filling false room (creditOpening q (now (closed .entry)) room day) r (now (work .exit)) (now (marks .exit))) ⌝ }
+    ensures { λ r. ⌜ Fills (Fresh (now (closed .entry)) room) false room (λ _. creditOpening q (now (closed .entry)) room day) 0 (working (now (work .entry)) (now (marks .entry))) r (working (now (work .exit)) (now (marks .exit))) ⌝ }
 {
     let convention = q.convention;
-    let moved = search::adjust(day, convention, q.mask, closed);
-    match moved {
-        Dated::Refused(k) => Filled::Refused(k),
-        Dated::Day(a) => {
-            if q.effective.day < a.day {
-                return open_earlier(room, day, work, marks);
-            }
-            lists::put(false, 0, room, day, 1, work, marks)
-        }
+    let moved = match search::adjust(day, convention, q.mask, closed) {
+        Dated::Refused(k) => return Filled::Refused(k),
+        Dated::Day(d) => d,
+    };
+    if q.effective.day < moved.day {
+        return open_earlier(room, day, work, marks);
     }
+    lists::put_first(false, room, day, 1, work, marks)
 }
 
 // The first date: the effective one, or a twentieth for CDS and CDS2015.
@@ -58,15 +54,15 @@ pub(crate) fn put_opening(
     work: &mut [u32],
     marks: &mut [u8],
 ) -> Filled
-    ensures { λ r. ⌜ (closedOk (now (closed .entry)) ≡ true → Part room 0 (now (work .entry)) (now (marks .entry)) → Filling false room (opening q (now (closed .entry)) room) r (now (work .exit)) (now (marks .exit))) ⌝ }
+    ensures { λ r. ⌜ Fills (Fresh (now (closed .entry)) room) false room (λ _. opening q (now (closed .entry)) room) 0 (working (now (work .entry)) (now (marks .entry))) r (working (now (work .exit)) (now (marks .exit))) ⌝ }
 {
     let rule = q.rule;
     if rules::is_credit(rule) {
-        let previous = twentieths::previous(q.effective.day, rule);
-        match previous {
+        let previous = match twentieths::previous(q.effective.day, rule) {
             Dated::Refused(k) => return Filled::Refused(k),
-            Dated::Day(d) => return open_credit(q, closed, room, d.day, work, marks),
-        }
+            Dated::Day(d) => d,
+        };
+        return open_credit(q, closed, room, previous.day, work, marks);
     }
-    lists::put(false, 0, room, q.effective.day, 1, work, marks)
+    lists::put_first(false, room, q.effective.day, 1, work, marks)
 }

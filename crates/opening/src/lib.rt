@@ -1,9 +1,6 @@
 // The first two dates of a forward build.
-ghost use mathlib.Core.Path.{_≡_};
-ghost use mathlib.Core.Bool.{true};
-ghost use Rattle.calendar.specs.Open.{closedOk};
 ghost use Rattle.steps.specs.Generate.{opened};
-ghost use Rattle.working.specs.Part.{Part};
+ghost use Rattle.working.specs.Part.{working, Fresh};
 ghost use Rattle.opening.specs.Opening.{Opens};
 use steps::Request;
 use working::Filled;
@@ -27,11 +24,11 @@ pub fn open_forward(
     work: &mut [u32],
     marks: &mut [u8],
 ) -> Opening
-    ensures { λ r. ⌜ (closedOk (now (closed .entry)) ≡ true → Part room 0 (now (work .entry)) (now (marks .entry)) → Opens room (opened q (now (closed .entry)) room) r (now (work .exit)) (now (marks .exit))) ⌝ }
+    ensures { λ r. ⌜ Opens (Fresh (now (closed .entry)) room) room (λ _. opened q (now (closed .entry)) room) 0 (working (now (work .entry)) (now (marks .entry))) r (working (now (work .exit)) (now (marks .exit))) ⌝ }
 {
-    let one = first::put_opening(q, closed, room, work, marks);
-    match one {
-        Filled::Refused(k) => Opening::Refused(k),
-        Filled::Ready(n) => second::put_second(q, closed, room, n, work, marks),
-    }
+    let n = match first::put_opening(q, closed, room, work, marks) {
+        Filled::Refused(k) => return Opening::Refused(k),
+        Filled::Ready(n) => n,
+    };
+    second::put_second(q, closed, room, n, work, marks)
 }

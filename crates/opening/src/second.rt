@@ -1,16 +1,15 @@
 // The second date of a forward build: the request's first date, or a twentieth.
 ghost use mathlib.Core.Path.{_≡_};
-ghost use mathlib.Core.Bool.{true, false};
-ghost use Prim.Native.Nat.{_<_};
+ghost use mathlib.Core.Bool.{true};
 ghost use lib.Dec.{eqb};
 ghost use Rattle.date.specs.Date.{dated};
 ghost use Rattle.calendar.specs.Open.{closedOk};
 ghost use Rattle.steps.specs.Rules.{onTwentieths};
 ghost use Rattle.steps.specs.Generate.{comingTwentieth, isNear, putSeed, putComing, putTwentieth, putFirst, tenorOn, second};
-ghost use Rattle.working.specs.Part.{Part, Begun, held};
+ghost use Rattle.working.specs.Part.{working, Part, Placed, Begun};
 ghost use Rattle.opening.specs.Opening.{Opens};
 use crate::Opening;
-use calendar::search;
+use calendar::advances;
 use date::Dated;
 use period::sign;
 use steps::Request;
@@ -30,13 +29,13 @@ fn put_seed(
     work: &mut [u32],
     marks: &mut [u8],
 ) -> Opening
-    ensures { λ r. ⌜ (Part room n (now (work .entry)) (now (marks .entry)) → Opens room (putSeed room day mark (held false n (now (work .entry)) (now (marks .entry)))) r (now (work .exit)) (now (marks .exit))) ⌝ }
+    ensures { λ r. ⌜ Opens (Part room) room (putSeed room day mark) n (working (now (work .entry)) (now (marks .entry))) r (working (now (work .exit)) (now (marks .exit))) ⌝ }
 {
-    let put = lists::put(false, n, room, day, mark, work, marks);
-    match put {
-        Filled::Refused(k) => Opening::Refused(k),
-        Filled::Ready(m) => Opening::Ready { n: m, seed: day },
-    }
+    let m = match lists::put(false, n, room, day, mark, work, marks) {
+        Filled::Refused(k) => return Opening::Refused(k),
+        Filled::Ready(m) => m,
+    };
+    Opening::Ready { n: m, seed: day }
 }
 
 // OldCDS passes over a twentieth under 30 days after the effective date.
@@ -55,16 +54,14 @@ fn is_near(rule: Rule, effective: u32, day: u32) -> bool
 fn coming_twentieth(rule: Rule, effective: u32) -> Dated
     ensures { λ r. ⌜ dated r ≡ comingTwentieth rule effective ⌝ }
 {
-    let next = twentieths::next(effective, rule);
-    match next {
-        Dated::Refused(k) => Dated::Refused(k),
-        Dated::Day(d) => {
-            if is_near(rule, effective, d.day) {
-                return twentieths::next(d.day + 1, rule);
-            }
-            Dated::Day(d)
-        }
+    let next = match twentieths::next(effective, rule) {
+        Dated::Refused(k) => return Dated::Refused(k),
+        Dated::Day(d) => d,
+    };
+    if is_near(rule, effective, next.day) {
+        return twentieths::next(next.day + 1, rule);
     }
+    Dated::Day(next)
 }
 
 // The coming twentieth, unless it is the effective date itself.
@@ -76,7 +73,7 @@ fn put_coming(
     work: &mut [u32],
     marks: &mut [u8],
 ) -> Opening
-    ensures { λ r. ⌜ (Part room n (now (work .entry)) (now (marks .entry)) → 0 < n → Opens room (putComing (eqb day (q .effective .day)) q room day (held false n (now (work .entry)) (now (marks .entry)))) r (now (work .exit)) (now (marks .exit))) ⌝ }
+    ensures { λ r. ⌜ Opens (Placed room) room (putComing (eqb day (q .effective .day)) q room day) n (working (now (work .entry)) (now (marks .entry))) r (working (now (work .exit)) (now (marks .exit))) ⌝ }
 {
     let rule = q.rule;
     if day == q.effective.day {
@@ -93,15 +90,15 @@ fn put_coming(
 
 // The second date of the rules on twentieths; the others have none.
 fn put_twentieth(q: Request, room: usize, n: usize, work: &mut [u32], marks: &mut [u8]) -> Opening
-    ensures { λ r. ⌜ (Part room n (now (work .entry)) (now (marks .entry)) → 0 < n → Opens room (putTwentieth (onTwentieths (q .rule)) q room (held false n (now (work .entry)) (now (marks .entry)))) r (now (work .exit)) (now (marks .exit))) ⌝ }
+    ensures { λ r. ⌜ Opens (Placed room) room (putTwentieth (onTwentieths (q .rule)) q room) n (working (now (work .entry)) (now (marks .entry))) r (working (now (work .exit)) (now (marks .exit))) ⌝ }
 {
     let rule = q.rule;
     if rules::on_twentieths(rule) {
-        let coming = coming_twentieth(rule, q.effective.day);
-        match coming {
+        let coming = match coming_twentieth(rule, q.effective.day) {
             Dated::Refused(k) => return Opening::Refused(k),
-            Dated::Day(d) => return put_coming(q, room, d.day, n, work, marks),
-        }
+            Dated::Day(d) => d,
+        };
+        return put_coming(q, room, coming.day, n, work, marks);
     }
     Opening::Ready {
         n,
@@ -118,17 +115,24 @@ fn put_first(
     work: &mut [u32],
     marks: &mut [u8],
 ) -> Opening
-    ensures { λ r. ⌜ (Begun (now (closed .entry)) room n (now (work .entry)) (now (marks .entry)) → Opens room (putFirst q (now (closed .entry)) room (held false n (now (work .entry)) (now (marks .entry)))) r (now (work .exit)) (now (marks .exit))) ⌝ }
+    ensures { λ r. ⌜ Opens (Begun (now (closed .entry)) room) room (putFirst q (now (closed .entry)) room) n (working (now (work .entry)) (now (marks .entry))) r (working (now (work .exit)) (now (marks .exit))) ⌝ }
 {
     if room <= n {
         return Opening::Refused(refusal::ROOM);
     }
-    let next = tenor_on(q, closed, lists::newest(false, n, work));
+    let next = match tenor_on(q, closed, lists::newest(false, n, work)) {
+        Dated::Refused(k) => return Opening::Refused(k),
+        Dated::Day(d) => d,
+    };
     let first = q.first.day;
-    match next {
-        Dated::Refused(k) => Opening::Refused(k),
-        Dated::Day(d) => put_seed(n, room, first, flags::same_flag(d.day, first), work, marks),
-    }
+    put_seed(
+        n,
+        room,
+        first,
+        flags::same_flag(next.day, first),
+        work,
+        marks,
+    )
 }
 
 // One tenor on, on the given calendar.
@@ -139,7 +143,7 @@ fn tenor_on(q: Request, closed: &[u32], day: u32) -> Dated
     let unit = tenor.unit;
     let convention = q.convention;
     let size = sign::size(tenor.length);
-    search::advance(
+    advances::advance(
         day,
         false,
         size,
@@ -159,7 +163,7 @@ pub(crate) fn put_second(
     work: &mut [u32],
     marks: &mut [u8],
 ) -> Opening
-    ensures { λ r. ⌜ (Begun (now (closed .entry)) room n (now (work .entry)) (now (marks .entry)) → Opens room (second (q .first .day) q (now (closed .entry)) room (held false n (now (work .entry)) (now (marks .entry)))) r (now (work .exit)) (now (marks .exit))) ⌝ }
+    ensures { λ r. ⌜ Opens (Begun (now (closed .entry)) room) room (second (q .first .day) q (now (closed .entry)) room) n (working (now (work .entry)) (now (marks .entry))) r (working (now (work .exit)) (now (marks .exit))) ⌝ }
 {
     if q.first.day == 0 {
         return put_twentieth(q, room, n, work, marks);

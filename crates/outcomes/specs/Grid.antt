@@ -9,19 +9,19 @@ use native.Mathlib.Nat.{le-antisymm}
 use lib.Dec.{ltb}
 use borrow.Author.Tests.{ltb-true, ltb-false}
 use Rattle.refusal.specs.Answer.{Answer, given, refused, need, then, BOOK}
-use Rattle.refusal.specs.Laws.{fails, never-both}
+use Rattle.refusal.specs.Laws.Answers.{fails, never-both}
 use Rattle.date.specs.Civil.{fieldsOf, monthLength, dayNumber}
 use Rattle.date.specs.Date.{inBook, monthIndex, inMonth, step, shiftMonths}
-use Rattle.date.specs.Months.{length-ge}
-use Rattle.date.specs.Round.{day-of-fields}
-use Rattle.date.specs.Order.{month-day-kept}
-use Rattle.date.specs.Moves.{book-from}
-use Rattle.imm.specs.Order.{month-le}
+use Rattle.date.specs.Laws.Months.{length-ge}
+use Rattle.date.specs.Laws.Round.{day-of-fields}
+use Rattle.date.specs.Laws.Order.{month-day-kept}
+use Rattle.date.specs.Laws.Moves.{book-from}
+use Rattle.imm.specs.Laws.Order.{month-le}
 use Rattle.steps.specs.declared.Rule.{Rule}
 use Rattle.steps.specs.Rules.{inImmMonths}
 use Rattle.steps.specs.Twentieths.{twentiethOf, movedIf, skipOf, toImmMonth, nextTwentieth, previousTwentieth, nextTwentiethOf, previousTwentiethOf}
-use Rattle.outcomes.specs.Span.{InSpan, le-or-lt, month-span, month-of, month-there, since}
-use Rattle.outcomes.specs.Days.{index-fields, made-as, later}
+use Rattle.outcomes.specs.Laws.Span.{InSpan, le-or-lt, month-span, month-of, month-there, since}
+use Rattle.outcomes.specs.Laws.Days.{index-fields, made-as, later}
 
 -- ---- what is said: the grid of a rule, and the date of it that lies next on either side
 -- a 20th from 1800 to 2399, for the rules limited to IMM months one of March, June, September or December

@@ -5,7 +5,7 @@ use Prim.Native.Nat.{ℕ}
 use mathlib.Core.Path.{_≡_, refl, ap, subst}
 use mathlib.Core.Bool.{Bool, true, false}
 use Rattle.refusal.specs.Answer.{Answer, given, refused, number, need, then, BOOK, CLOSED, ROOM, COLLAPSED}
-use Rattle.refusal.specs.Laws.{never-both, one-given}
+use Rattle.refusal.specs.Laws.Answers.{never-both, one-given}
 
 -- `c` says that there may be a search
 pub data Late (c : Type 0) (n : ℕ) : Type 0 where

@@ -6,14 +6,14 @@ use mathlib.Core.List.{List}
 use native.Mathlib.Omega.{arith}
 use borrow.Author.Tests.{eq-eqb}
 use Rattle.refusal.specs.Answer.{Answer, given, refused, then, ROOM}
-use Rattle.refusal.specs.Laws.{never-both}
+use Rattle.refusal.specs.Laws.Answers.{never-both}
 use Rattle.steps.specs.declared.Request.{Request}
 use Rattle.steps.specs.Table.{firstRow, inputRows}
 use Rattle.steps.specs.Generate.{generate}
 use Rattle.steps.specs.Finish.{finish}
 use Rattle.steps.specs.Build.{Schedule, stepsOf, admitted, buildOf}
-use Rattle.outcomes.specs.Roomless.{finish-free}
-use Rattle.outcomes.specs.Room.{Under, full, same, gives, onward, after, generates}
+use Rattle.outcomes.specs.Laws.Roomless.{finish-free}
+use Rattle.outcomes.specs.Laws.Room.{Under, full, same, gives, onward, after, generates}
 
 -- ---- the steps with as much room as that, over 4,096 too; a build has the room lent, and 4,096 at most
 unfoldable pub stepsIn : Request → List ℕ → ℕ → Answer Schedule

@@ -12,14 +12,14 @@ use Rattle.refusal.specs.Answer.{refused, BOOK, CLOSED, ROOM, COLLAPSED}
 use Rattle.calendar.specs.declared.Convention.the-variants.{Unadjusted}
 use Rattle.steps.specs.declared.Request.{Request}
 use Rattle.steps.specs.Table.{inputRows}
-use Rattle.steps.specs.TableLaws.{NoneHolds, FirstHolds, refused-exactly, accepted-exactly, input-numbered}
+use Rattle.steps.specs.Laws.Table.{NoneHolds, FirstHolds, refused-exactly, accepted-exactly, input-numbered}
 use Rattle.steps.specs.Generate.{Lists, lastTry, candidates}
 use Rattle.steps.specs.Build.{buildOf}
 use Rattle.outcomes.specs.Late.{Late}
 use Rattle.outcomes.specs.Searches.{Searches, for-convention, for-terminal, for-month-end, for-first-date, StepsNoOpenDays, no-first, backward, not-days}
-use Rattle.outcomes.specs.Bound.{Enters, candidatesIn}
-use Rattle.outcomes.specs.Bound as bound
-use Rattle.outcomes.specs.Rows.{ofChecks, Reason, early, late, reason, late-number, late-closed}
+use Rattle.outcomes.specs.Laws.Bound.{Enters, candidatesIn}
+use Rattle.outcomes.specs.Laws.Bound as bound
+use Rattle.outcomes.specs.Laws.Rows.{ofChecks, Reason, early, late, reason, late-number, late-closed}
 use Rattle.outcomes.specs.NoLimit as room
 
 module _ (q : Request) (closed : List ℕ) where

@@ -10,28 +10,28 @@ use lib.Dec.{eqb, leb, ltb}
 use lib.ListN.{getD}
 use borrow.Author.Tests.{ne-eqb, eqb-true, not-false, leb-true, le-ltb}
 use Rattle.refusal.specs.Answer.{Answer, given, need, then, ROOM}
-use Rattle.refusal.specs.Laws.{need-given, one-given, then-stepped, below, allBelow}
+use Rattle.refusal.specs.Laws.Answers.{need-given, one-given, then-stepped, below, allBelow}
 use Rattle.date.specs.Civil.{leap, rowOf, monthLength, gone, sumTo, guess, yearsGone, monthIn, dayIn, placeOf, fieldsAt, fieldsOf, dayNumber}
 use Rattle.date.specs.Date.{inBook, monthIndex, makeOf, inMonth, step, shiftMonths}
-use Rattle.date.specs.Months.{length-ge}
-use Rattle.date.specs.Round.{Valid}
-use Rattle.imm.specs.Order.{later-month}
+use Rattle.date.specs.Laws.Months.{length-ge}
+use Rattle.date.specs.Laws.Round.{Valid}
+use Rattle.imm.specs.Laws.Order.{later-month}
 use Rattle.calendar.specs.Adjust.{adjusted}
 use Rattle.steps.specs.declared.Rule.{Rule}
 use Rattle.steps.specs.declared.Rule.the-variants.{Zero, Backward, Forward, Twentieth, TwentiethIMM, ThirdWednesday, ThirdWednesdayInclusive, OldCDS, CDS, CDS2015}
 use Rattle.steps.specs.declared.Request.{Request}
 use Rattle.steps.specs.Rules.{ruleNumber, oneOf, ruleInForce, ruleUnder, isNone, isZero, isBackward, inImmMonths, onTwentieths, isCredit, isOldCDS}
 use Rattle.steps.specs.Table.{firstRow, inputRows, byRange, byImm, wrongRule, isGiven}
-use Rattle.steps.specs.TableLaws.{accepted}
+use Rattle.steps.specs.Laws.Table.{accepted}
 use Rattle.steps.specs.Twentieths.{twentiethOf, movedIf, skipOf, toImmMonth, nextTwentieth, previousTwentieth}
 use Rattle.steps.specs.Generate.{Lists, Made, nothing, onto, hasRoom, put, putEarlier, creditOpening, openingBy, opening, farEnough, isNear, comingTwentieth, putComing, putTwentieth, second, opened, zeroDates, backward, forwardFrom, forward, generateBy, generate}
 use Rattle.steps.specs.Finish.{finish}
 use Rattle.steps.specs.Build.{Schedule, stepsOf, admitted, buildOf}
-use Rattle.outcomes.specs.Days.{days-apart}
-use Rattle.outcomes.specs.Searched.{adjusted-near}
-use Rattle.outcomes.specs.Generated.{passed}
+use Rattle.outcomes.specs.Laws.Days.{days-apart}
+use Rattle.outcomes.specs.Laws.Searched.{adjusted-near}
+use Rattle.outcomes.specs.Laws.Generating.{passed}
 use Rattle.outcomes.specs.Grid.{Gives, weaker, IsTwentieth, Last, twentieth-number, twentieth-month, twentieth-le, in-month, shift, reached, previous-from, next-from}
-use Rattle.outcomes.specs.FirstDate.{Alike, Behind, Opens, both-gave, second-alike, forward-alike}
+use Rattle.outcomes.specs.Laws.FirstDate.{Alike, Behind, Opens, both-gave, second-alike, forward-alike}
 
 -- ---- the Rust's step, and a build with it
 unfoldable pub rustPrevious : Rule → ℕ → Answer ℕ

@@ -1,8 +1,8 @@
 -- Multiplying a period by a count (document 01, module 2).
 -- Assumes nothing.
-use mathlib.Core.Bool.{Bool, _&&_}
+use mathlib.Core.Bool.{Bool, true, false, _&&_}
 use lib.IntN.{ℤ, pos, negsuc, _*ℤ_}
-use lib.Signed.{leZ}
+use lib.Signed.{leZ, ltZ}
 use Rattle.refusal.specs.Answer.{Answer, given, refused, need, TENOR}
 use Rattle.period.specs.declared.Unit.{Unit}
 use Rattle.period.specs.declared.Period.{Period}
@@ -13,6 +13,13 @@ use Rattle.period.specs.declared.Product.the-variants as product-is
 unfoldable pub product : Product → Answer Period
 product (product-is.Period p) = given p
 product (product-is.Refused n) = refused n
+
+abbrev pub isNegative : ℤ → Bool
+isNegative (pos n) = false
+isNegative (negsuc n) = true
+
+abbrev pub isPositive : ℤ → Bool
+isPositive z = ltZ (pos 0) z
 
 -- a number of 32 bits with sign: -2147483648 (which is `negsuc 2147483647`) to 2147483647
 unfoldable pub fits32 : ℤ → Bool

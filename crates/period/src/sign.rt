@@ -1,7 +1,7 @@
 // The sign and the size of a signed count.
 ghost use mathlib.Core.Path.{_≡_};
 ghost use lib.IntN.{natAbs};
-ghost use Rattle.period.specs.Signed.{isNegative};
+ghost use Rattle.period.specs.Period.{isNegative};
 
 pub fn is_negative(n: i32) -> bool
     ensures { λ r. ⌜ r ≡ isNegative n ⌝ }

@@ -10,10 +10,10 @@ use Rattle.steps.specs.declared.Rule.{Rule}
 use Rattle.steps.specs.declared.Rule.the-variants.{Backward}
 use Rattle.steps.specs.declared.Request.{Request}
 use Rattle.steps.specs.Rules.{ruleNumber, oneOf, isBackward}
-use Rattle.steps.specs.RuleLaws.{only}
+use Rattle.steps.specs.Laws.Rules.{only}
 use Rattle.plain.specs.Demand.{PlainIf}
-use Rattle.plain.specs.Asked.{isStraight}
-use Rattle.plain.specs.Straight.{straight-plain, plain-straight}
+use Rattle.plain.specs.PlainTests.{isStraight}
+use Rattle.plain.specs.Laws.Straight.{straight-plain, plain-straight}
 
 -- ---- tests one after the other: the first that fails is the answer
 module _ (a b r : Bool) where

@@ -20,7 +20,7 @@ use Rattle.steps.specs.declared.Request.{Request}
 use Rattle.steps.specs.declared.Built.{Built}
 use Rattle.steps.specs.Table.{firstRow, inputRows}
 use Rattle.steps.specs.Build.{Schedule, Written, buildOf}
-use Rattle.plain.specs.Listed.{Lists}
+use Rattle.plain.specs.Listed.{ListsAll}
 
 -- ---- "Take a backward build .. with positive tenor, no anchors, both conventions Unadjusted, end of month off, effective before termination."
 pub record Plain (q : Request) : Type 0 where
@@ -62,7 +62,7 @@ abbrev pub OwedDate : Request → ℕ → Type 0
 OwedDate q d = (d ≡ q .effective .day) ⊎ ((q .effective .day < d) × LiesSo q d)
 
 abbrev pub Owed : Request → List ℕ → Type 0
-Owed q ds = Lists (OwedDate q) ds
+Owed q ds = ListsAll (OwedDate q) ds
 
 -- ---- "Every period is regular, but for the first where the effective date does not lie so." 1 is regular
 pub data FirstFlag (q : Request) (flag : ℕ) : Type 0 where

@@ -19,10 +19,10 @@ use Rattle.steps.specs.declared.Rule.the-variants.{Backward}
 use Rattle.steps.specs.declared.Request.{Request}
 use Rattle.steps.specs.Build.{buildOf}
 use Rattle.plain.specs.Demand.{Plain, Passes, taken, Most}
-use Rattle.plain.specs.Falling.{dueList}
-use Rattle.plain.specs.Walked.{owedList}
-use Rattle.plain.specs.Mosts.{most-if}
-use Rattle.plain.specs.Formula.{given-by, refused-by}
+use Rattle.plain.specs.Laws.Falling.{dueList}
+use Rattle.plain.specs.Laws.Walked.{owedList}
+use Rattle.plain.specs.Laws.Mosts.{most-if}
+use Rattle.plain.specs.Laws.Formula.{given-by, refused-by}
 
 -- Backward by months, always open, Unadjusted, with no anchors and end of month off
 abbrev monthly : ℕ → ℕ → ℕ → Request

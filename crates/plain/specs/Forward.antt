@@ -17,7 +17,7 @@ use Rattle.steps.specs.declared.Request.{Request}
 use Rattle.steps.specs.declared.Built.{Built}
 use Rattle.steps.specs.Build.{Schedule, Written, buildOf}
 use Rattle.steps.specs.Table.{firstRow, inputRows}
-use Rattle.plain.specs.Listed.{Lists}
+use Rattle.plain.specs.Listed.{ListsAll}
 use Rattle.plain.specs.Demand.{Passes, tenorLength, countedIn, tenorCount, TooLong, LeftAlone}
 use Rattle.outcomes.specs.NoLimit.{stepsIn}
 
@@ -71,7 +71,7 @@ abbrev pub LiesAfter : Request → ℕ → Type 0
 LiesAfter q d = OneOrMore (tenorsAfter q) d
 
 abbrev pub OwedOn : Request → List ℕ → Type 0
-OwedOn q ds = Lists (DueOn (tenorsAfter q) (q .effective .day) (q .termination .day)) ds
+OwedOn q ds = ListsAll (DueOn (tenorsAfter q) (q .effective .day) (q .termination .day)) ds
 
 -- ---- every period is regular, but for the last where termination does not lie so
 pub data LastFlag (q : Request) (flag : ℕ) : Type 0 where

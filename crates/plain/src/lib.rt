@@ -1,8 +1,8 @@
 // The plain builds: those of which demand 3 says the whole list in one sentence (specs/Demand.antt).
 ghost use mathlib.Core.Path.{_≡_};
-ghost use Rattle.period.specs.Signed.{isPositive};
+ghost use Rattle.period.specs.Period.{isPositive};
 ghost use Rattle.plain.specs.Demand.{PlainIf};
-ghost use Rattle.plain.specs.Asked.{isUnadjusted, isUnanchored, isStraight};
+ghost use Rattle.plain.specs.PlainTests.{isUnadjusted, isUnanchored, isStraight};
 use calendar::Convention;
 use period::Period;
 use steps::Request;

@@ -12,7 +12,7 @@ use borrow.Author.Needs.{needs}
 use borrow.Author.Tests.{le-leb, lt-leb, leb-true, leb-false}
 use Rattle.printing.specs.Text.{decimal, firstLine, laterLine, laterLines, lines, header, scheduleText, refusalText, DATES, TRIES, REFUSED, LINE}
 use Rattle.printing.specs.Put.{Put, Spelled, fitting}
-use Rattle.printing.specs.Lengths.{first-length, header-length, refusal-length, schedule-length}
+use Rattle.printing.specs.Laws.Lengths.{first-length, header-length, refusal-length, schedule-length}
 use Rattle.printing.proofs.Putting.{put-none, put-then}
 
 -- ---- a text that fits, and one that does not

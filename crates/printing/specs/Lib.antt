@@ -1,4 +1,4 @@
 pub mod Text
 pub mod Put
-pub mod Lengths
+pub mod Laws
 pub mod Samples

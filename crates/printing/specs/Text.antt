@@ -45,7 +45,7 @@ REFUSED = 114 ∷ 101 ∷ 102 ∷ 117 ∷ 115 ∷ 101 ∷ 100 ∷ 32 ∷ []
 
 -- ---- numbers
 -- the digits of n in front of others, at most so many: the last one, after those of n / 10 if there are any
-unfoldable pub spelled : ℕ → ℕ → List ℕ → List ℕ
+unfoldable pub spelled : ℕ → (n : ℕ) (after : List ℕ) → List ℕ
 spelled zero n after = after
 spelled (suc k) n after = pick (ltb n 10) (digit n ∷ after) (spelled k (n / 10) (digit (n % 10) ∷ after))
 
@@ -91,7 +91,7 @@ unfoldable pub header : ℕ → ℕ → List ℕ
 header count tries = decimal count ++ DATES ++ decimal tries ++ TRIES
 
 -- ---- what is printed of a schedule, and of a refusal
-unfoldable pub scheduleText : ℕ → List ℕ → List ℕ → List ℕ
+unfoldable pub scheduleText : (tries : ℕ) (dates flags : List ℕ) → List ℕ
 scheduleText tries dates flags = header (length dates) tries ++ lines dates flags
 
 unfoldable pub refusalText : ℕ → List ℕ

@@ -9,7 +9,7 @@ use lib.ListN.{length, take, drop}
 use lib.Seq.{take-at}
 use borrow.Author.Tests.{leb-true}
 use Rattle.refusal.specs.Answer.{Answer, given, refused, need, then}
-use Rattle.refusal.specs.Laws.{need-given, then-stepped, one-given}
+use Rattle.refusal.specs.Laws.Answers.{need-given, then-stepped, one-given}
 use Rattle.steps.specs.declared.Request.{Request}
 use Rattle.steps.specs.Build.{over}
 use Rattle.request.specs.declared.Decoded.{Decoded}

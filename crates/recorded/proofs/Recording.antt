@@ -13,14 +13,14 @@ use lib.IntN.{ℤ, pos, negℤ, natAbs}
 use lib.ListN.{length, set, length-set}
 use borrow.Author.Tests.{eq-eqb, ne-eqb, le-leb, lt-leb}
 use Rattle.refusal.specs.Answer.{Answer, given, refused}
-use Rattle.refusal.specs.Laws.{fails, holds, then-given, then-refused}
+use Rattle.refusal.specs.Laws.Answers.{fails, holds, then-given, then-refused}
 use Rattle.steps.specs.declared.Request.{Request}
 use Rattle.steps.specs.declared.Built.{Built}
 use Rattle.steps.specs.Rules.{ruleNumber}
 use Rattle.steps.specs.Build.{refusedBuilt, Schedule, buildOf, answered, over, datesAfter, flagsAfter, Written}
 use Rattle.crossing.specs.Answers.{oneNumber}
 use Rattle.crossing.specs.Numbers.{unitNumber}
-use Rattle.crossing.specs.Calls.{handed}
+use Rattle.crossing.specs.Laws.Calls.{handed}
 use Rattle.recorded.specs.Builds.{outcome, howMany, recordOf, sixNumbers, recorded, countIn, Reported}
 
 -- ---- the number that is answered

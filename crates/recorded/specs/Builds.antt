@@ -19,7 +19,7 @@ use Rattle.crossing.specs.Numbers.{unitNumber}
 abbrev pub fitsRecord : List ℕ → Bool
 fitsRecord answer = leb 6 (length answer)
 
-unfoldable pub outcome : Answer Request → List ℕ → List ℕ → List ℕ → List ℕ → Answer Schedule
+unfoldable pub outcome : Answer Request → (closed dates flags answer : List ℕ) → Answer Schedule
 outcome q closed dates flags answer =
     need ROOM (fitsRecord answer) (then q (λ request. buildOf request closed (length dates) (length flags)))
 

@@ -1,3 +1,3 @@
 pub mod Builds
 pub mod Bytes
-pub mod Handed
+pub mod Laws

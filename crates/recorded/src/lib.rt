@@ -9,7 +9,7 @@ ghost use Rattle.request.specs.Format.{decoded};
 ghost use Rattle.recorded.specs.Bytes.{requestIn, closedIn};
 ghost use Rattle.recorded.specs.Builds.{sixNumbers, countIn, Reported};
 use crossing::answers;
-use crossing::requests::Asked;
+use crossing::requests::FromNumbers;
 use period::sign;
 use request::Decoded;
 use steps::Built;
@@ -49,7 +49,7 @@ fn report(b: Built, answer: &mut [u32]) -> i64
 
 // Builds what was asked for, and puts the record of it into the start of `answer`.
 pub fn build(
-    request: Asked,
+    request: FromNumbers,
     closed: &[u32],
     dates: &mut [u32],
     flags: &mut [u8],
@@ -61,11 +61,11 @@ pub fn build(
         return answers::minus(refusal::ROOM);
     }
     match request {
-        Asked::Is(q) => {
+        FromNumbers::Is(q) => {
             let built = schedule::build(q, closed, dates, flags);
             report(built, answer)
         }
-        Asked::Refused(n) => report(steps::refused(n), answer),
+        FromNumbers::Refused(n) => report(steps::refused(n), answer),
     }
 }
 
@@ -84,8 +84,8 @@ fn build_read(
         Decoded::Asked {
             request: q,
             closed: n,
-        } => build(Asked::Is(q), &closed[0..n], dates, flags, answer),
-        Decoded::Refused(k) => build(Asked::Refused(k), closed, dates, flags, answer),
+        } => build(FromNumbers::Is(q), &closed[0..n], dates, flags, answer),
+        Decoded::Refused(k) => build(FromNumbers::Refused(k), closed, dates, flags, answer),
     }
 }
 

@@ -8,7 +8,7 @@ use mathlib.Core.Bool.{Bool, true, false}
 use mathlib.Core.List.{List, [], _∷_, _++_}
 use lib.Dec.{eqb}
 use lib.ListN.{length}
-use Rattle.refusal.specs.declared.Row.{Row}
+use Rattle.refusal.specs.declared.NameRow.{NameRow}
 
 pub record Refusal : Type 0 where
   pub number : ℕ
@@ -67,10 +67,10 @@ unfoldable pub spaces : ℕ → List ℕ
 spaces zero = []
 spaces (suc n) = 32 ∷ spaces n
 
-unfoldable pub rowOf : Refusal → Row
+unfoldable pub rowOf : Refusal → NameRow
 rowOf r =
     record { 0 = r .number; 1 = length (letters (r .name)); 2 = letters (r .name) ++ spaces (16 - length (letters (r .name))) }
 
-unfoldable pub rowsOf : List Refusal → List Row
+unfoldable pub rowsOf : List Refusal → List NameRow
 rowsOf [] = []
 rowsOf (r ∷ rows) = rowOf r ∷ rowsOf rows

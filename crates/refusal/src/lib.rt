@@ -43,29 +43,29 @@ pub const SHORTEND: u8 = 27;
 // ---- made so far
 
 // A refusal's number, how many letters its name has, and the name in ASCII with spaces behind it.
-pub struct Row(pub u8, pub usize, pub [u8; 16]);
+pub struct NameRow(pub u8, pub usize, pub [u8; 16]);
 
 // ---- made by tools/refusals.py: rows
-pub const ROWS: [Row; 19] = [
-    Row(UNEVEN, 6, *b"UNEVEN          "),
-    Row(BOOK, 4, *b"BOOK            "),
-    Row(CALENDAR, 8, *b"CALENDAR        "),
-    Row(NEGATIVE, 8, *b"NEGATIVE        "),
-    Row(TENOR, 5, *b"TENOR           "),
-    Row(FIRST_DATE, 10, *b"FIRST_DATE      "),
-    Row(FIRST_NOT_IMM, 13, *b"FIRST_NOT_IMM   "),
-    Row(FIRST_WRONG_RULE, 16, *b"FIRST_WRONG_RULE"),
-    Row(LAST_DATE, 9, *b"LAST_DATE       "),
-    Row(LAST_NOT_IMM, 12, *b"LAST_NOT_IMM    "),
-    Row(LAST_WRONG_RULE, 15, *b"LAST_WRONG_RULE "),
-    Row(MONTHEND, 8, *b"MONTHEND        "),
-    Row(CLOSED, 6, *b"CLOSED          "),
-    Row(ROOM, 4, *b"ROOM            "),
-    Row(COLLAPSED, 9, *b"COLLAPSED       "),
-    Row(CODE, 4, *b"CODE            "),
-    Row(REQUEST, 7, *b"REQUEST         "),
-    Row(NOTPLAIN, 8, *b"NOTPLAIN        "),
-    Row(SHORTEND, 8, *b"SHORTEND        "),
+pub const ROWS: [NameRow; 19] = [
+    NameRow(UNEVEN, 6, *b"UNEVEN          "),
+    NameRow(BOOK, 4, *b"BOOK            "),
+    NameRow(CALENDAR, 8, *b"CALENDAR        "),
+    NameRow(NEGATIVE, 8, *b"NEGATIVE        "),
+    NameRow(TENOR, 5, *b"TENOR           "),
+    NameRow(FIRST_DATE, 10, *b"FIRST_DATE      "),
+    NameRow(FIRST_NOT_IMM, 13, *b"FIRST_NOT_IMM   "),
+    NameRow(FIRST_WRONG_RULE, 16, *b"FIRST_WRONG_RULE"),
+    NameRow(LAST_DATE, 9, *b"LAST_DATE       "),
+    NameRow(LAST_NOT_IMM, 12, *b"LAST_NOT_IMM    "),
+    NameRow(LAST_WRONG_RULE, 15, *b"LAST_WRONG_RULE "),
+    NameRow(MONTHEND, 8, *b"MONTHEND        "),
+    NameRow(CLOSED, 6, *b"CLOSED          "),
+    NameRow(ROOM, 4, *b"ROOM            "),
+    NameRow(COLLAPSED, 9, *b"COLLAPSED       "),
+    NameRow(CODE, 4, *b"CODE            "),
+    NameRow(REQUEST, 7, *b"REQUEST         "),
+    NameRow(NOTPLAIN, 8, *b"NOTPLAIN        "),
+    NameRow(SHORTEND, 8, *b"SHORTEND        "),
 ];
 // ---- made so far
 

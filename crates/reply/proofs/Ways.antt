@@ -21,7 +21,7 @@ use Rattle.request.specs.Decode as request
 use Rattle.request.specs.Decode.{Decodes, closedAfter}
 use Rattle.printing.specs.Text.{pick, laterLines, lines, scheduleText, refusalText}
 use Rattle.printing.specs.Put.{Put, fitting}
-use Rattle.printing.specs.Lengths.{schedule-fits, refusal-fits}
+use Rattle.printing.specs.Laws.Lengths.{schedule-fits, refusal-fits}
 use Rattle.reply.specs.Reply.{builtText, askedText, replyText, Replies, Zeros}
 use Rattle.reply.specs.Shown.{byNumber, shownText}
 

@@ -10,13 +10,13 @@ use borrow.Author.Tests.{eq-eqb, eqb-true, eqb-false, le-leb, lt-leb}
 use lib.Dec.{eqb, leb}
 use lib.ListN.{length, getD, take, drop, replicate}
 use Rattle.refusal.specs.Answer.{Answer, given, refused, need, then}
-use Rattle.refusal.specs.Laws.{fails, holds, then-given, then-refused}
+use Rattle.refusal.specs.Laws.Answers.{fails, holds, then-given, then-refused}
 use Rattle.steps.specs.declared.Request.{Request}
 use Rattle.steps.specs.Build.{over}
 use Rattle.request.specs.declared.Decoded.{Decoded}
 use Rattle.request.specs.declared.Decoded.the-variants as decoded-is
 use Rattle.request.specs.Format.{pick, isDate, bodyOk, datesOf, requestFrom, closedFrom, Asked, askedFrom, askedIn, fieldsFrom, decoded}
-use Rattle.request.specs.Places.{twoAt, bodyAt, placed, datesAt, Sized, Lies, Kept, Found, reads, Blank}
+use Rattle.request.specs.Inner.Places.{twoAt, bodyAt, placed, datesAt, Sized, Lies, PlacesKept, Found, reads, Blank}
 use Rattle.request.specs.Decode.{answered, closedAfter, Decodes}
 use Rattle.request.proofs.AskWays.{left-out-body, body-there, long-there, kept-1, kept-2, by-fours}
 use Rattle.request.proofs.WriteWays.{dates-length}
@@ -30,7 +30,7 @@ pub same-promise : {o o′ : Answer Asked} {r : Decoded} {l l′ : List ℕ} →
 same-promise {o} {o′} {r} {l} {l′} e d = record { answer = d .answer ∙ ap answered e; list-after = d .list-after ∙ ap (λ (x : Answer Asked). closedAfter x l) e }
 
 -- ---- the closed dates at their place
-module _ {bytes places : List ℕ} (k : Kept bytes places) {count : ℕ} (is : count ≡ length (bodyAt bytes [] (getD places 11 0)) / 4) where
+module _ {bytes places : List ℕ} (k : PlacesKept bytes places) {count : ℕ} (is : count ≡ length (bodyAt bytes [] (getD places 11 0)) / 4) where
   abbrev from : ℕ
   from = getD places 11 0
 
@@ -84,7 +84,7 @@ module _ {bytes places : List ℕ} (k : Kept bytes places) {count : ℕ} (is : c
   closed-long = ap length closed-is ∙ dates-length count (take (count * 4) (drop from bytes))
 
 -- ---- the answer
-pub answer-lies : {bytes places : List ℕ} → Kept bytes places → (getD places 11 0 ≡ 0 → ⊥) → Lies bytes (getD places 11 0) 11
+pub answer-lies : {bytes places : List ℕ} → PlacesKept bytes places → (getD places 11 0 ≡ 0 → ⊥) → Lies bytes (getD places 11 0) 11
 answer-lies k = k .lies 11
 
 date-there : {bytes : List ℕ} {p : ℕ} → (p ≡ 0 → ⊥) → Sized bytes p 4 → isDate (bodyAt bytes [] p) ≡ true
@@ -98,7 +98,7 @@ no-date bytes e = ap isDate (left-out-body bytes [] e)
 both : {a b x y : Bool} → a ≡ x → b ≡ y → a && b ≡ x && y
 both p q = cc
 
-module _ {bytes places : List ℕ} (k : Kept bytes places) (l : List ℕ) where
+module _ {bytes places : List ℕ} (k : PlacesKept bytes places) (l : List ℕ) where
   pub answer-first : getD places 1 0 ≡ 0 → Decodes (askedFrom (length l) (placed bytes places)) (decoded-is.Refused 17) l l
   unfolding askedFrom
   answer-first e = refuses 17 (fails 17 _ _ (ap (λ (b : Bool). b && isDate (placed bytes places [] 2)) (no-date bytes e)))
@@ -156,7 +156,7 @@ module _ (bytes l : List ℕ) where
       unfolding reads
       found = rw e at g
 
-      pub read-kept : Kept bytes places
+      pub read-kept : PlacesKept bytes places
       read-kept = found .kept
 
       whole : askedFrom (length l) (placed bytes places) ≡ decoded bytes (length l)

@@ -24,8 +24,8 @@ use Rattle.steps.specs.declared.Rule.{Rule}
 use Rattle.calendar.specs.Adjust.{conventions}
 use Rattle.steps.specs.Rules.{rules}
 use Rattle.request.specs.Format.{pick, two, four, signed16, isDate, isTenor, isBelow, areDates, bodyOk, byteOf, dateOf, unitOf, tenorOf, ruleOf, conventionOf, requestFrom}
-use Rattle.request.specs.Picks.{taken, left}
-use Rattle.request.specs.Places.{twoAt, Pair, bodyAt, Sized, Lies, Kept}
+use Rattle.request.specs.Laws.Picks.{taken, left}
+use Rattle.request.specs.Inner.Places.{twoAt, Pair, bodyAt, Sized, Lies, PlacesKept}
 
 -- ---- a body that was left out, and one that is there
 module _ (bytes : List ℕ) {place : ℕ} where
@@ -144,7 +144,7 @@ pub by-fours : (s : List ℕ) → areDates s ≡ true → length s % 4 ≡ 0
 unfolding areDates
 by-fours s e = eqb-true (length s % 4) 0 (second-of (leb (length s) 16384) (eqb (length s % 4) 0) e)
 
-module _ {bytes places : List ℕ} (k : Kept bytes places) where
+module _ {bytes places : List ℕ} (k : PlacesKept bytes places) where
   sized-by : (tag n : ℕ) → ((s : List ℕ) → bodyOk tag s ≡ true → length s ≡ n) → (getD places tag 0 ≡ 0 → ⊥) → Sized bytes (getD places tag 0) n
   sized-by tag n wide some =
       let l = k .lies tag some in

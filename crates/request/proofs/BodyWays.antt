@@ -16,7 +16,7 @@ use Rattle.calendar.specs.Adjust.{conventions as conventionList}
 use Rattle.steps.specs.declared.Rule.the-variants.{Zero, Backward, Forward, Twentieth, TwentiethIMM, ThirdWednesday, ThirdWednesdayInclusive, OldCDS, CDS, CDS2015}
 use Rattle.steps.specs.Rules.{rules as ruleList}
 use Rattle.request.specs.Format.{pick, isDate, isLetter, isTenor, isBelow, areDates, bodyOk, unitOf, ruleOf, conventionOf}
-use Rattle.request.specs.Picks.{left}
+use Rattle.request.specs.Laws.Picks.{left}
 
 -- a definition's value at a number that was matched
 at : {A : Type 0} (f : ℕ → A) {b k : ℕ} {x : A} → b ≡ k → x ≡ f k → x ≡ f b

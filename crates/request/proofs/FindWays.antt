@@ -14,8 +14,8 @@ use Rattle.refusal.specs.Answer.{then}
 use Rattle.request.specs.declared.fields.Step.{Step}
 use Rattle.request.specs.declared.fields.Step.the-variants.{Broken, End, Next}
 use Rattle.request.specs.Format.{Field, lastTag, cutOf, onCut, fieldsFrom, bodyOr}
-use Rattle.request.specs.Picks.{taken, left}
-use Rattle.request.specs.Places.{twoAt, bodyAt, placed, Lies, Kept, Framed, stepped, framed, Steps, reads, Blank}
+use Rattle.request.specs.Laws.Picks.{taken, left}
+use Rattle.request.specs.Inner.Places.{twoAt, bodyAt, placed, Lies, PlacesKept, Framed, stepped, framed, Steps, reads, Blank}
 
 pub record Reached (bytes places : List ℕ) (at last : ℕ) : Type 0 where
   pub fields : List Field
@@ -25,7 +25,7 @@ pub record Reached (bytes places : List ℕ) (at last : ℕ) : Type 0 where
   pub tags : lastTag fields ≡ last
   pub same : fieldsFrom fuel fields (drop at bytes) ≡ fieldsFrom (suc (length bytes)) [] bytes
   pub bodies : bodyOr fields ≡ placed bytes places
-  pub kept : Kept bytes places
+  pub kept : PlacesKept bytes places
 
 pub reached-start : {bytes places : List ℕ} → Blank places → Reached bytes places 0 0
 unfolding lastTag bodyOr
@@ -42,7 +42,7 @@ reached-start {bytes} {places} b =
     }
 
 -- a place put down for a tag
-module _ (bytes places : List ℕ) (at tag n : ℕ) (k : Kept bytes places) (f : Framed bytes at tag n) where
+module _ (bytes places : List ℕ) (at tag n : ℕ) (k : PlacesKept bytes places) (f : Framed bytes at tag n) where
   abbrev now-places : List ℕ
   now-places = set places tag (at + 3)
 
@@ -75,7 +75,7 @@ module _ (bytes places : List ℕ) (at tag n : ℕ) (k : Kept bytes places) (f :
   lies-by t some false q =
       rw (put-other t (eqb-false tag t q)) (k .lies t (λ e. some (put-other t (eqb-false tag t q) ∙ e)))
 
-  kept-on : Kept bytes now-places
+  kept-on : PlacesKept bytes now-places
   kept-on = record { twelve = length-set places tag (at + 3) ∙ k .twelve; lies = λ t some. lies-by t some (eqb tag t) refl }
 
 opened : (fuel : ℕ) (fs : List Field) (s : List ℕ) → 0 < fuel → fieldsFrom fuel fs s ≡ then (cutOf s) (onCut fs (fieldsFrom (fuel - 1)))

@@ -16,15 +16,16 @@ use lib.Seq.{sets, sets-eq, take-suc, take-length, length-take-le}
 use mir.Syntax.{w32}
 use mir.Val.{SFits, toZ, ofZ}
 use Rattle.refusal.specs.Answer.{Answer, given, refused}
-use Rattle.refusal.specs.Laws.{fails, holds}
-use Rattle.period.specs.Signed.{isNegative, same32}
+use Rattle.refusal.specs.Laws.Answers.{fails, holds}
+use Rattle.period.specs.Period.{isNegative}
+use Rattle.period.specs.Laws.Signed.{same32}
 use Rattle.period.specs.declared.Period.{Period}
 use Rattle.steps.specs.declared.Request.{Request}
 use Rattle.steps.specs.Build.{over}
 use Rattle.request.specs.declared.Encoded.the-variants as encoded-is
 use Rattle.request.specs.Encode.{bytes4, bits16, letterOf, tenorBody, headOf, spelt, datesIn, fieldsIn, written, bytesOf, datesPart, choicesPart, anchorsPart, closedPart, fits16, sayable, laid, encoded, encodes, bytesAfter, Encodes}
-use Rattle.request.specs.Places.{Bits}
-use Rattle.request.specs.Round.{dates-long, bytes-long}
+use Rattle.request.specs.Inner.Places.{Bits}
+use Rattle.request.specs.Laws.Round.{dates-long, bytes-long}
 
 -- ---- sixteen bits
 same-test : (a b c d : ℕ) → (a ≤ b → c ≤ d) → (b < a → d < c) → leb a b ≡ leb c d

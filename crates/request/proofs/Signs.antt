@@ -13,7 +13,7 @@ use mir.Val.{SFits, toZ, ofZ}
 use mir.Facts.{toZ-ofZ}
 use mir.ValLaws.{toZ-pos}
 use Rattle.request.specs.Format.{signed16}
-use Rattle.request.specs.Picks.{taken, left}
+use Rattle.request.specs.Laws.Picks.{taken, left}
 
 pos-sub : (a b : ℕ) → pos a -ℤ pos b ≡ subℕ a b
 pos-sub a zero = simp (le-ltb a 0 (omega arith)) (ap pos (omega arith))

@@ -12,12 +12,12 @@ use lib.Dec.{eqb, leb, ltb}
 use lib.ListN.{length, getD, take, drop, length-drop}
 use lib.Seq.{getD-drop, drop-drop, length-take-le}
 use Rattle.refusal.specs.Answer.{Answer, given, refused, need, then}
-use Rattle.refusal.specs.Laws.{fails, holds, then-given, then-refused}
+use Rattle.refusal.specs.Laws.Answers.{fails, holds, then-given, then-refused}
 use Rattle.request.specs.declared.fields.Step.{Step}
 use Rattle.request.specs.declared.fields.Step.the-variants.{Broken, End, Next}
 use Rattle.request.specs.Format.{two, bodyOk, Field, Cut, sizeIn, cutAt, cutOf, lastTag, isEnd, onField, onCut}
 use Rattle.request.proofs.BodyWays.{body-none}
-use Rattle.request.specs.Places.{twoAt, Pair, stepped, framed, Steps}
+use Rattle.request.specs.Inner.Places.{twoAt, Pair, stepped, framed, Steps}
 
 -- no tag from 12 on has a body
 none-from : (tag : ℕ) (s : List ℕ) → 12 ≤ tag → false ≡ bodyOk tag s

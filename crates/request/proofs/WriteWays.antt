@@ -11,7 +11,7 @@ use lib.ListN.{length, getD, take, drop, set, length-set}
 use lib.Seq.{getD-drop, getD-take, paste-suc, take-length}
 use Rattle.steps.specs.Build.{over}
 use Rattle.request.specs.Format.{four, datesOf}
-use Rattle.request.specs.Places.{datesAt}
+use Rattle.request.specs.Inner.Places.{datesAt}
 
 pub dates-length : (n : ℕ) (s : List ℕ) → length (datesOf n s) ≡ n
 unfolding datesOf

@@ -84,7 +84,7 @@ unfoldable pub bytesOf : Request → List ℕ → List ℕ
 bytesOf q closed = written (fieldsIn q closed)
 
 -- bytes laid over others from a place on
-unfoldable pub laid : List ℕ → ℕ → List ℕ → List ℕ
+unfoldable pub laid : (old : List ℕ) (at : ℕ) (s : List ℕ) → List ℕ
 laid old at s = sets old at s
 
 -- the same bytes in four parts: dates and tenor, rule to end of month, anchors and mask, closed dates and FF

@@ -28,7 +28,7 @@ pick false a b = b
 abbrev pub two : ℕ → ℕ → ℕ
 two a b = a * 256 + b
 
-abbrev pub four : ℕ → ℕ → ℕ → ℕ → ℕ
+abbrev pub four : (a b c d : ℕ) → ℕ
 four a b c d = ((a * 256 + b) * 256 + c) * 256 + d
 
 unfoldable pub signed16 : ℕ → ℤ

@@ -1,9 +1,7 @@
 pub mod Tags
 pub mod Format
-pub mod Picks
+pub mod Laws
 pub mod Encode
-pub mod Places
+pub mod Inner
 pub mod Decode
-pub mod Round
 pub mod Sums
-pub mod There

@@ -6,7 +6,7 @@ ghost use lib.ListN.{length};
 ghost use Rattle.steps.specs.Build.{over};
 ghost use Rattle.request.specs.Tags.{CLOSED};
 ghost use Rattle.request.specs.Format.{byteOf, dateOf, tenorOf, requestFrom};
-ghost use Rattle.request.specs.Places.{bodyAt, datesAt, Sized, Lies, Kept, placed};
+ghost use Rattle.request.specs.Inner.Places.{bodyAt, datesAt, Sized, Lies, PlacesKept, placed};
 use crate::bodies;
 use crate::numbers;
 use crate::places;
@@ -53,7 +53,7 @@ fn tenor_at(bytes: &[u8], place: usize) -> Period
 }
 
 pub(crate) fn request_at(bytes: &[u8], places: &[usize]) -> Request
-    requires { ⌜ Kept (now bytes) (now places) ⌝ }
+    requires { ⌜ PlacesKept (now bytes) (now places) ⌝ }
     ensures { λ r. ⌜ r ≡ requestFrom (placed (now (bytes .entry)) (now (places .entry))) ⌝ }
 {
     let effective = date_at(bytes, places[places::EFFECTIVE]);

@@ -1,7 +1,7 @@
 // The fields of a request: each a tag, a two-byte length and a body, up to FF.
 ghost use Prim.Native.Nat.{_≤_};
 ghost use lib.ListN.{length};
-ghost use Rattle.request.specs.Places.{Steps, Blank, reads};
+ghost use Rattle.request.specs.Inner.Places.{Steps, Blank, reads};
 use crate::bodies;
 use crate::numbers;
 use crate::tags;

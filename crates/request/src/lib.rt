@@ -1,7 +1,7 @@
 // Requests as bytes: tagged fields, each framed by its length.
 ghost use lib.ListN.{length};
 ghost use Rattle.request.specs.Format.{askedFrom, decoded};
-ghost use Rattle.request.specs.Places.{Kept, placed, Blank};
+ghost use Rattle.request.specs.Inner.Places.{PlacesKept, placed, Blank};
 ghost use Rattle.request.specs.Decode.{Decodes};
 ghost use Rattle.request.specs.Encode.{Encodes, encoded};
 use steps::Request;
@@ -35,7 +35,7 @@ pub enum Encoded {
 
 // The request at the places, with its closed dates written.
 fn answer(bytes: &[u8], places: &[usize], list: &mut [u32]) -> Decoded
-    requires { ⌜ Kept (now bytes) (now places) ⌝ }
+    requires { ⌜ PlacesKept (now bytes) (now places) ⌝ }
     ensures { λ r. ⌜ Decodes (askedFrom (length (now (list .entry))) (placed (now (bytes .entry)) (now (places .entry)))) r (now (list .entry)) (now (list .exit)) ⌝ }
 {
     if places[places::EFFECTIVE] == 0 {

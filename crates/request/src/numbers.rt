@@ -3,7 +3,7 @@ ghost use mathlib.Core.Path.{_≡_};
 ghost use Prim.Native.Nat.{_+_, _≤_, _<_};
 ghost use lib.ListN.{length, getD};
 ghost use Rattle.request.specs.Format.{four, signed16};
-ghost use Rattle.request.specs.Places.{Wide, Pair};
+ghost use Rattle.request.specs.Inner.Places.{Wide, Pair};
 
 fn wide(x: u8) -> u32
     ensures { λ r. ⌜ Wide x r ⌝ }

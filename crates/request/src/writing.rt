@@ -8,7 +8,7 @@ ghost use Rattle.calendar.specs.Adjust.{conventionNumber};
 ghost use Rattle.steps.specs.Build.{over};
 ghost use Rattle.request.specs.Tags.{TENOR};
 ghost use Rattle.request.specs.Encode.{bytes4, headOf, spelt, fits16, letterOf, bit, tenorBody, datesIn, sayable, bytesOf, laid, datesPart, choicesPart, anchorsPart, closedPart};
-ghost use Rattle.request.specs.Places.{Bits};
+ghost use Rattle.request.specs.Inner.Places.{Bits};
 use crate::tags;
 use calendar::Convention;
 use period::Period;

@@ -6,46 +6,31 @@ use mathlib.Core.List.{List}
 use Prim.Native.Nat.{ℕ, zero, suc, _+_, _-_, _≤_, min}
 use native.Mathlib.Omega.{arith}
 use lib.ListN.{length, take, drop, length-drop}
-use lib.Seq.{take-all, length-take-le}
+use lib.Seq.{length-take-le}
 use Rattle.refusal.specs.Answer.{Answer, given, refused, then}
-use Rattle.refusal.specs.Laws.{then-given, then-refused}
+use Rattle.refusal.specs.Laws.Answers.{then-given, then-refused}
 use Rattle.steps.specs.declared.Rule.{Rule}
 use Rattle.steps.specs.declared.Request.{Request}
 use Rattle.steps.specs.declared.Built.{Built}
 use Rattle.steps.specs.Rules.{isZero, isBackward, ruleInForce}
 use Rattle.steps.specs.Table.{firstRow, inputRows}
-use Rattle.steps.specs.TableLaws.{accepted}
-use Rattle.steps.specs.Generate.{nothing, put, zeroDates, forward}
-use Rattle.steps.specs.Fewer.{keptBackward, keptBy, kept, keptFinish, keptSteps}
-use Rattle.steps.specs.FewerLaws.{kept-steps}
+use Rattle.steps.specs.Laws.Table.{accepted}
+use Rattle.steps.specs.Generate.{zeroDates, forward}
+use Rattle.steps.specs.Fewer.Steps.{keptBackward, keptBy, kept, keptFinish, keptSteps}
+use Rattle.steps.specs.Fewer.Same.{kept-steps}
 use Rattle.steps.specs.Build.{refusedBuilt, Schedule, stepsOf, admitted, buildOf, answered, datesAfter, flagsAfter, Written}
-use Rattle.working.specs.declared.Filled.{Filled}
-use Rattle.working.specs.declared.Filled.the-variants as filled-is
+use Rattle.working.specs.declared.Piece.{Piece}
 use Rattle.working.specs.declared.Generated.{Generated}
 use Rattle.working.specs.declared.Generated.the-variants as generated-is
-use Rattle.working.specs.Part.{Part, held, lastPut, Filling}
+use Rattle.working.specs.Step.{was-given, was-refused, was-kept}
+use Rattle.working.specs.Part.{Work, Part, Placed}
 use Rattle.finish.specs.Finishing.{scheduled, Lent, completed}
-use Rattle.finish.specs.Lending.{lent-fits, completed-on}
-use Rattle.working.specs.Making.{Checked, generated, Lies, Generates}
-use Rattle.working.specs.Held.{put-length}
-use Rattle.working.specs.Chains.{filled-part, filled-given}
+use Rattle.finish.specs.Laws.Lending.{lent-fits, completed-on}
+use Rattle.working.specs.Making.{Checked, piece, generated, Lies, Generates}
 
 -- ---- Zero
-module _ (q : Request) {room : ℕ} {f : Filled} {work marks : List ℕ} (p : Filling true room (then (put room (q .termination .day) 1 nothing) (put room (q .effective .day) 1)) f work marks) where
-  pub zero-size : (n : ℕ) → f ≡ filled-is.Ready n → n ≤ 4096
-  zero-size n e = let s = filled-part p n e .0 in omega (arith, s)
-
-  pub zero-made : (n : ℕ) → f ≡ filled-is.Ready n → Generates room (zeroDates q room) (generated-is.Ready (4096 - n) (4096 - n) n 0 0) work marks
-  unfolding zeroDates generated Lies held lastPut
-  zero-made n e =
-      let s = filled-part p n e in
-      let t = s .0 in
-      let w : length (drop (4096 - n) work) ≡ n = put-length true work n (t .work-size) (omega (arith, t)) in
-      let d : take n (drop (4096 - n) work) ≡ drop (4096 - n) work = take-all n (drop (4096 - n) work) (omega arith) in
-      record {
-        says = then-given _ (held true n work marks) _ _ (filled-given p n e) (rw (d, w) refl);
-        lies = (omega arith, t .fits, omega (arith, t), omega (arith, t));
-      }
+pub zero-size : {room n : ℕ} {w : Work} → Placed room n w → n ≤ 4096
+zero-size p = let t = p .part in omega (arith, t)
 
 -- ---- by the rule in force
 module _ (q : Request) (closed : List ℕ) (rule : Rule) (r : rule ≡ ruleInForce q) (z : Bool) (p : z ≡ isZero rule) where
@@ -88,24 +73,29 @@ pub refusal-written : (q : Request) (o : Answer Schedule) (k : ℕ) (r : Built) 
 unfolding answered datesAfter flagsAfter
 refusal-written q o k r dates flags b e = rw (← e) (record { answer = b; dates-after = refl; flags-after = refl })
 
-module _ (q : Request) (closed : List ℕ) (lent : ℕ) {room : ℕ} {g : Generated} {work marks : List ℕ} (p : Generates room (kept q closed room) g work marks) (least : room ≡ min lent 4096) where
+module _ (q : Request) (closed : List ℕ) (lent : ℕ) {room : ℕ} (g : Generated) (w : Work) (p : Generates room (kept q closed room) g w) (least : room ≡ min lent 4096) where
   pub run-stop : (k : ℕ) → g ≡ generated-is.Refused k → refused k ≡ stepsOf q closed lent
   unfolding keptSteps generated
   run-stop k e =
-      let v : generated g work marks ≡ kept q closed room = p .says in
-      let w : kept q closed room ≡ refused k = sym (rw e at v) in
-      then-refused _ k _ (rw least at w) ∙ sym (kept-steps q closed lent)
+      let h : generated g ≡ refused k = rw e in
+      let s : kept q closed room ≡ refused k = was-refused p k h in
+      then-refused _ k _ (rw least at s) ∙ sym (kept-steps q closed lent)
 
-  pub run-on : (from marked n tries seed : ℕ) → g ≡ generated-is.Ready from marked n tries seed → then (keptFinish q closed seed (take n (drop from work)) (take (n - 1) (drop marked marks))) (scheduled tries) ≡ stepsOf q closed lent
-  unfolding keptSteps generated scheduled
-  run-on from marked n tries seed e =
-      let v : generated g work marks ≡ kept q closed room = p .says in
-      let w : kept q closed room ≡ given (record { dates = take n (drop from work); flags = take (n - 1) (drop marked marks); tries = tries; seed = seed }) = sym (rw e at v) in
-      then-given _ _ _ _ (rw least at w) refl ∙ sym (kept-steps q closed lent)
+  pub run-on : (c : Piece) → g ≡ generated-is.Ready c → then (keptFinish q closed (c .seed) (take (c .n) (drop (c .from) (w .days))) (take (c .n - 1) (drop (c .marked) (w .marks)))) (scheduled (c .tries)) ≡ stepsOf q closed lent
+  unfolding keptSteps generated piece scheduled
+  run-on c e =
+      let h : generated g ≡ given c = rw e in
+      let k : kept q closed room ≡ given (piece w c) = was-given p c h in
+      then-given _ _ _ _ (rw least at k) refl ∙ sym (kept-steps q closed lent)
 
-  pub run-lies : (from marked n tries seed : ℕ) → g ≡ generated-is.Ready from marked n tries seed → (1 ≤ n) × (n ≤ room) × (from + n ≤ 4096) × (marked + (n - 1) ≤ 4096)
-  unfolding Lies
-  run-lies from marked n tries seed e = let v : Lies room g = p .lies in rw e at v
+  -- what was generated fits into what is lent
+  pub run-lies : (c : Piece) → g ≡ generated-is.Ready c → Lies lent c
+  unfolding generated
+  run-lies c e =
+      let h : generated g ≡ given c = rw e in
+      let l = was-kept p c h in
+      let f = l .fits in
+      record { some = l .some; fits = omega arith; dates-end = l .dates-end; flags-end = l .flags-end }
 
 -- ---- the whole build
 module _ (q : Request) (closed : List ℕ) (dates flags number : ℕ) (p : number ≡ firstRow (inputRows q closed dates flags)) where
@@ -129,14 +119,14 @@ pub finish-is : (q : Request) (closed : List ℕ) (seed tries : ℕ) (ds ds′ f
 finish-is q closed seed tries ds ds′ fs fs′ dates flags a b l = sym (completed-on q closed seed tries ds fs (length dates) (length flags) 0 (lent-fits l) refl) ∙ rw (a, b) refl
 
 -- empty working lists, and as much room as is lent
-pub part-empty : (lent room : ℕ) (work marks : List ℕ) → length work ≡ 4096 → length marks ≡ 4096 → room ≡ min lent 4096 → Part room 0 work marks
-part-empty lent room work marks a b e = record { work-size = a; marks-size = b; fits = omega arith; most = omega arith }
+pub part-empty : (lent room : ℕ) (w : Work) → length (w .days) ≡ 4096 → length (w .marks) ≡ 4096 → room ≡ min lent 4096 → Part room 0 w
+part-empty lent room w a b e = record { work-size = a; marks-size = b; fits = omega arith; most = omega arith }
 
-pub lent-part : (work marks dates flags : List ℕ) (from marked n end last : ℕ) → length work ≡ 4096 → length marks ≡ 4096 → end ≡ from + n → last ≡ marked + (n - 1) → 1 ≤ n → from + n ≤ 4096 → marked + (n - 1) ≤ 4096 → n ≤ length dates → length dates ≡ length flags → Lent (take (end - from) (drop from work)) (take (last - marked) (drop marked marks)) dates flags
-lent-part work marks dates flags from marked n end last a b e f g h i j k =
-    let w = part-long work from n end a e h in
-    let m = part-long marks marked (n - 1) last b f i in
+pub lent-part : (work marks dates flags : List ℕ) (c : Piece) (end last : ℕ) → length work ≡ 4096 → length marks ≡ 4096 → end ≡ c .from + c .n → last ≡ c .marked + (c .n - 1) → Lies (length dates) c → length dates ≡ length flags → Lent (take (end - c .from) (drop (c .from) work)) (take (last - c .marked) (drop (c .marked) marks)) dates flags
+lent-part work marks dates flags c end last a b e f l k =
+    let d = part-long work (c .from) (c .n) end a e (l .dates-end) in
+    let m = part-long marks (c .marked) (c .n - 1) last b f (l .flags-end) in
+    let s = l .some in
+    let r = l .fits in
+    let t = l .dates-end in
     record { between = omega arith; most = omega arith; fits = omega arith; even = k }
-
-pub room-enough : (n room lent : ℕ) → n ≤ room → room ≡ min lent 4096 → n ≤ lent
-room-enough n room lent a b = omega arith

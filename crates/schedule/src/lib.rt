@@ -6,13 +6,14 @@ ghost use lib.ListN.{length, take, drop};
 ghost use Rattle.refusal.specs.Answer.{then};
 ghost use Rattle.calendar.specs.Open.{closedOk};
 ghost use Rattle.steps.specs.Build.{Written, stepsOf, buildOf};
-ghost use Rattle.steps.specs.Fewer.{keptFinish};
-ghost use Rattle.working.specs.Part.{Part};
-ghost use Rattle.working.specs.Making.{Checked};
+ghost use Rattle.steps.specs.Fewer.Steps.{keptFinish};
+ghost use Rattle.working.specs.Part.{working, Part};
+ghost use Rattle.working.specs.Making.{Checked, Lies};
 ghost use Rattle.finish.specs.Finishing.{scheduled};
 use steps::Built;
 use steps::Request;
 use working::Generated;
+use working::Piece;
 
 // The dates of a build, by its rule.
 mod generating;
@@ -27,28 +28,25 @@ fn least(a: usize, b: usize) -> usize
 fn finish_part(
     q: Request,
     closed: &[u32],
-    from: usize,
-    marked: usize,
-    n: usize,
-    tries: u32,
-    seed: u32,
+    piece: Piece,
     work: &mut [u32],
     marks: &mut [u8],
     dates: &mut [u32],
     flags: &mut [u8],
 ) -> Built
     requires { ⌜ (closedOk (now closed) ≡ true) × (length (now work) ≡ 4096) × (length (now marks) ≡ 4096) ⌝ }
-    requires { ⌜ (1 ≤ n) × (from + n ≤ 4096) × (marked + (n - 1) ≤ 4096) ⌝ }
-    requires { ⌜ (n ≤ length (now dates)) × (length (now dates) ≡ length (now flags)) ⌝ }
-    ensures { λ r. ⌜ Written q (then (keptFinish q (now (closed .entry)) seed (take n (drop from (now (work .entry)))) (take (n - 1) (drop marked (now (marks .entry))))) (scheduled tries)) r (now (dates .entry)) (now (flags .entry)) (now (dates .exit)) (now (flags .exit)) ⌝ }
+    requires { ⌜ Lies (length (now dates)) piece × (length (now dates) ≡ length (now flags)) ⌝ }
+    ensures { λ r. ⌜ Written q (then (keptFinish q (now (closed .entry)) (piece .seed) (take (piece .n) (drop (piece .from) (now (work .entry)))) (take (piece .n - 1) (drop (piece .marked) (now (marks .entry))))) (scheduled (piece .tries))) r (now (dates .entry)) (now (flags .entry)) (now (dates .exit)) (now (flags .exit)) ⌝ }
 {
-    let end = from + n;
-    let last = marked + (n - 1);
+    let from = piece.from;
+    let end = from + piece.n;
+    let marked = piece.marked;
+    let last = marked + (piece.n - 1);
     finish::complete(
         q,
         closed,
-        seed,
-        tries,
+        piece.seed,
+        piece.tries,
         &mut work[from..end],
         &mut marks[marked..last],
         dates,
@@ -67,31 +65,13 @@ fn run(
     flags: &mut [u8],
 ) -> Built
     requires { ⌜ Checked q (now closed) ⌝ }
-    requires { ⌜ Part room 0 (now work) (now marks) × (room ≡ min (length (now dates)) 4096) × (length (now dates) ≡ length (now flags)) ⌝ }
+    requires { ⌜ Part room 0 (working (now work) (now marks)) × (room ≡ min (length (now dates)) 4096) × (length (now dates) ≡ length (now flags)) ⌝ }
     ensures { λ r. ⌜ Written q (stepsOf q (now (closed .entry)) (length (now (dates .entry)))) r (now (dates .entry)) (now (flags .entry)) (now (dates .exit)) (now (flags .exit)) ⌝ }
 {
     let made = generating::generate(q, closed, room, work, marks);
     match made {
         Generated::Refused(k) => steps::refused(k),
-        Generated::Ready {
-            from,
-            marked,
-            n,
-            tries,
-            seed,
-        } => finish_part(
-            q,
-            closed,
-            from,
-            marked,
-            n,
-            tries,
-            seed,
-            work,
-            marks,
-            dates,
-            flags,
-        ),
+        Generated::Ready(piece) => finish_part(q, closed, piece, work, marks, dates, flags),
     }
 }
 

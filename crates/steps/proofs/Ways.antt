@@ -15,23 +15,23 @@ use borrow.Author.Needs.{needs}
 use borrow.Author.Tests.{ne-eqb, eq-eqb}
 use Rattle.refusal.specs.Answer.{Answer, given}
 use Rattle.period.specs.declared.Unit.the-variants.{Days}
-use Rattle.period.specs.Signed.{abs-small}
+use Rattle.period.specs.Laws.Signed.{abs-small}
 use Rattle.period.specs.declared.Period.{Period}
 use Rattle.date.specs.declared.Fields.{Fields}
 use Rattle.date.specs.Civil.{fieldsOf}
-use Rattle.date.specs.Moves.{valid-at, year-at}
+use Rattle.date.specs.Laws.Moves.{valid-at, year-at}
 use Rattle.calendar.specs.Adjust.{atMonthEnd}
 use Rattle.steps.specs.declared.Rule.the-variants.{Zero}
 use Rattle.steps.specs.declared.Request.{Request}
 use Rattle.steps.specs.declared.Rule.{Rule}
 use Rattle.steps.specs.Rules.{rules, ruleNumber, isNone, ruleUnder, ruleInForce, isZero, isBackward, tenorUnder, tenorInForce}
-use Rattle.steps.specs.RuleLaws.{keysOf, tagsAre, told}
+use Rattle.steps.specs.Laws.Rules.{keysOf, tagsAre, told}
 use Rattle.steps.proofs.Rule.{the-type}
 use Rattle.steps.specs.Table.{isGiven}
 use Rattle.steps.specs.Generate.{anchorOr}
 use Rattle.steps.specs.Finish.{seedAsked, seedAtEnd}
 use Rattle.steps.specs.Build.{refusedBuilt}
-use Rattle.steps.specs.Fewer.{settles}
+use Rattle.steps.specs.Fewer.Steps.{settles}
 
 -- ---- a `match` on a rule, with several rules to an arm
 pub arm : (f : Rule → Bool) (b : Bool) (rule : Rule) → OneOf (keysOf f b rules) (tagOf the-type rule) → b ≡ f rule

@@ -32,7 +32,7 @@ admitted zero steps room = steps room
 admitted (suc n) steps room = refused (suc n)
 
 -- a build with that many places lent for dates and for flags
-unfoldable pub buildOf : Request → List ℕ → ℕ → ℕ → Answer Schedule
+unfoldable pub buildOf : Request → (closed : List ℕ) (dates flags : ℕ) → Answer Schedule
 buildOf q closed dates flags = admitted (firstRow (inputRows q closed dates flags)) (stepsOf q closed) dates
 
 -- ---- what is answered, and what the lent lists hold

@@ -22,7 +22,7 @@ unfoldable pub seedOf : Bool → ℕ → Seed
 seedOf monthend day = record { day = day; month = monthIndex day; keep = pickN (monthend && lastDay day) 31 (fieldsOf day .day) }
 
 -- ---- the k-th candidate: k tenors after the seed, or before it, on the null calendar
-unfoldable pub candidateBy : Bool → Bool → Seed → ℕ → Answer ℕ
+unfoldable pub candidateBy : Bool → (back : Bool) → Seed → (n : ℕ) → Answer ℕ
 candidateBy false back seed n = withinSpan (step back (seed .day) n)
 candidateBy true back seed n = inMonth (step back (seed .month) n) (seed .keep)
 
@@ -30,7 +30,7 @@ unfoldable pub candidate : Bool → Pace → Seed → ℕ → Answer ℕ
 candidate back pace seed k = candidateBy (pace .monthly) back seed (k * pace .size)
 
 -- beyond the exit date: before it in a backward build, after it in a forward one
-unfoldable pub isPast : Bool → ℕ → ℕ → Bool
+unfoldable pub isPast : Bool → (exit day : ℕ) → Bool
 isPast true exit day = ltb day exit
 isPast false exit day = ltb exit day
 
@@ -45,13 +45,13 @@ unlessSame true day = skip
 unlessSame false day = keep day
 
 -- a candidate whose adjusted date equals that of the newest date kept is skipped
-unfoldable pub unlessPast : Bool → ℕ → List ℕ → Convention → ℕ → ℕ → Answer Turn
+unfoldable pub unlessPast : Bool → (mask : ℕ) (closed : List ℕ) → Convention → (newest day : ℕ) → Answer Turn
 unlessPast true mask closed convention newest day = given past
 unlessPast false mask closed convention newest day =
     then (adjusted mask closed convention newest) (λ a.
     then (adjusted mask closed convention day) (λ b.
     given (unlessSame (eqb a b) day)))
 
-unfoldable pub turnOf : ℕ → List ℕ → Convention → Bool → Pace → Seed → ℕ → ℕ → ℕ → Answer Turn
+unfoldable pub turnOf : (mask : ℕ) (closed : List ℕ) → Convention → (back : Bool) → Pace → Seed → (exit newest k : ℕ) → Answer Turn
 turnOf mask closed convention back pace seed exit newest k =
     then (candidate back pace seed k) (λ day. unlessPast (isPast back exit day) mask closed convention newest day)

@@ -23,7 +23,7 @@ use Rattle.steps.specs.Rules.{oneOf, ruleInForce, isCredit, isOldCDS}
 unfoldable pub thirdWednesday : ℕ → Answer ℕ
 thirdWednesday day = nthWeekdayOf 3 3 (fieldsOf day .month) (fieldsOf day .year)
 
-unfoldable pub moved : ℕ → List ℕ → Move → ℕ → Answer ℕ
+unfoldable pub moved : (mask : ℕ) (closed : List ℕ) → Move → (day : ℕ) → Answer ℕ
 moved mask closed Stay day = given day
 moved mask closed ThirdWednesdays day = thirdWednesday day
 moved mask closed (Adjust convention) day = adjusted mask closed convention day
@@ -36,7 +36,7 @@ each f [] = given []
 each f (x ∷ xs) = then (f x) (λ y. then (each f xs) (λ ys. given (y ∷ ys)))
 
 -- the dates from place a up to place b, the others as they are
-unfoldable pub between : (ℕ → Answer ℕ) → ℕ → ℕ → List ℕ → Answer (List ℕ)
+unfoldable pub between : (ℕ → Answer ℕ) → (a b : ℕ) (ds : List ℕ) → Answer (List ℕ)
 between f a b ds = then (each f (take (b - a) (drop a ds))) (λ ys. given (take a ds ++ (ys ++ drop b ds)))
 
 unfoldable pub onFirst : (ℕ → Answer ℕ) → List ℕ → Answer (List ℕ)
@@ -49,12 +49,12 @@ unfoldable pub onMiddle : (ℕ → Answer ℕ) → List ℕ → Answer (List ℕ
 onMiddle f ds = between f 1 (1 + (length ds - 2)) ds
 
 -- ---- the third Wednesdays: the middle dates, or all
-unfoldable pub wednesdaysBy : Bool → Bool → ℕ → List ℕ → List ℕ → Answer (List ℕ)
+unfoldable pub wednesdaysBy : Bool → (all : Bool) (mask : ℕ) (closed ds : List ℕ) → Answer (List ℕ)
 wednesdaysBy true all mask closed ds = onMiddle (moved mask closed ThirdWednesdays) ds
 wednesdaysBy false true mask closed ds = each (moved mask closed ThirdWednesdays) ds
 wednesdaysBy false false mask closed ds = given ds
 
-unfoldable pub wednesdays : Rule → ℕ → List ℕ → List ℕ → Answer (List ℕ)
+unfoldable pub wednesdays : Rule → (mask : ℕ) (closed ds : List ℕ) → Answer (List ℕ)
 wednesdays rule mask closed ds =
     wednesdaysBy (oneOf rule (ThirdWednesday ∷ [])) (oneOf rule (ThirdWednesdayInclusive ∷ [])) mask closed ds
 
@@ -83,15 +83,15 @@ middleMove true convention = monthEndMove convention
 middleMove false convention = Adjust convention
 
 -- the seed's month-end test; Zero has no seed, and 0 is not at month end
-unfoldable pub seedAsked : ℕ → ℕ → List ℕ → Answer Bool
+unfoldable pub seedAsked : ℕ → (mask : ℕ) (closed : List ℕ) → Answer Bool
 seedAsked zero mask closed = given false
 seedAsked (suc n) mask closed = atMonthEnd mask closed (suc n)
 
-unfoldable pub seedAtEnd : Bool → ℕ → List ℕ → ℕ → Answer Bool
+unfoldable pub seedAtEnd : Bool → (mask : ℕ) (closed : List ℕ) (seed : ℕ) → Answer Bool
 seedAtEnd false mask closed seed = given false
 seedAtEnd true mask closed seed = seedAsked seed mask closed
 
-unfoldable pub adjustments : Request → List ℕ → ℕ → List ℕ → Answer (List ℕ)
+unfoldable pub adjustments : Request → (closed : List ℕ) (seed : ℕ) (ds : List ℕ) → Answer (List ℕ)
 adjustments q closed seed ds =
     then (onFirst (moved (q .mask) closed (firstMove q)) ds) (λ ds₁.
     then (onLast (moved (q .mask) closed (lastMove q)) ds₁) (λ ds₂.
@@ -110,7 +110,7 @@ sameFlag a b = pickN (eqb a b) 1 0
 unfoldable pub meetAtEnd : List ℕ → Bool
 meetAtEnd ds = leb 2 (length ds) && leb (getD ds (length ds - 1) 0) (getD ds (length ds - 2) 0)
 
-unfoldable pub mergeEndIf : Bool → List ℕ → List ℕ → Merged
+unfoldable pub mergeEndIf : Bool → (ds fs : List ℕ) → Merged
 mergeEndIf false ds fs = record { dates = ds; flags = fs }
 mergeEndIf true ds fs =
     record {
@@ -125,7 +125,7 @@ mergeEnd ds fs = mergeEndIf (meetAtEnd ds) ds fs
 unfoldable pub meetAtFront : List ℕ → Bool
 meetAtFront ds = leb 2 (length ds) && leb (getD ds 1 0) (getD ds 0 0)
 
-unfoldable pub mergeFrontIf : Bool → List ℕ → List ℕ → Answer Merged
+unfoldable pub mergeFrontIf : Bool → (ds fs : List ℕ) → Answer Merged
 mergeFrontIf false ds fs = given (record { dates = ds; flags = fs })
 mergeFrontIf true ds fs =
     need COLLAPSED (leb 3 (length ds))
@@ -138,7 +138,7 @@ unfoldable pub mergeFront : Merged → Answer Merged
 mergeFront m = mergeFrontIf (meetAtFront (m .dates)) (m .dates) (m .flags)
 
 -- ---- all of it
-unfoldable pub finish : Request → List ℕ → ℕ → List ℕ → List ℕ → Answer Merged
+unfoldable pub finish : Request → (closed : List ℕ) (seed : ℕ) (ds fs : List ℕ) → Answer Merged
 finish q closed seed ds fs =
     then (wednesdays (ruleInForce q) (q .mask) closed ds) (λ ds₁.
     then (adjustments q closed seed ds₁) (λ ds₂.

@@ -38,15 +38,15 @@ onto day mark l = record { dates = day ∷ l .dates; marks = mark ∷ l .marks }
 unfoldable pub hasRoom : ℕ → Lists → Bool
 hasRoom room l = ltb (length (l .dates)) room
 
-unfoldable pub put : ℕ → ℕ → ℕ → Lists → Answer Lists
+unfoldable pub put : (room day mark : ℕ) → Lists → Answer Lists
 put room day mark l = need ROOM (hasRoom room l) (given (onto day mark l))
 
-unfoldable pub putUnless : Bool → ℕ → ℕ → ℕ → Lists → Answer Lists
+unfoldable pub putUnless : Bool → (room day mark : ℕ) → Lists → Answer Lists
 putUnless true room day mark l = given l
 putUnless false room day mark l = put room day mark l
 
 -- a date is added, unless another one adjusts to the same day as the newest
-unfoldable pub putNew : ℕ → List ℕ → Convention → ℕ → ℕ → ℕ → ℕ → Lists → Answer Lists
+unfoldable pub putNew : (mask : ℕ) (closed : List ℕ) → Convention → (room compared day mark : ℕ) → Lists → Answer Lists
 putNew mask closed convention room compared day mark l =
     then (adjusted mask closed convention (newest l)) (λ a.
     then (adjusted mask closed convention compared) (λ b.
@@ -67,11 +67,11 @@ unfoldable pub lastTry : ℕ
 lastTry = SPAN-LAST
 
 -- `left` candidates from the k-th on are looked at
-unfoldable pub walk : (ℕ → ℕ → Answer Turn) → ℕ → ℕ → ℕ → Lists → Answer Walk
+unfoldable pub walk : (ℕ → ℕ → Answer Turn) → (room : ℕ) → ℕ → (k : ℕ) → Lists → Answer Walk
 walk turn room zero k l = refused BOOK
 walk turn room (suc left) k l = then (turn (newest l) k) (λ t. onTurn room t k l (walk turn room left (suc k)))
 
-unfoldable pub candidates : Request → List ℕ → ℕ → Bool → ℕ → ℕ → Lists → Answer Walk
+unfoldable pub candidates : Request → (closed : List ℕ) (room : ℕ) (back : Bool) (seed exit : ℕ) → Lists → Answer Walk
 candidates q closed room back seed exit l =
     walk (turnOf (q .mask) closed (q .convention) back (paceOf (q .tenor)) (seedOf (q .monthend) seed) exit) room lastTry 1 l
 
@@ -80,7 +80,7 @@ unfoldable pub anchorOr : ℕ → ℕ → ℕ
 anchorOr anchor other = pickN (isGiven anchor) anchor other
 
 -- the anchor at which the loop ends is added too
-unfoldable pub putAnchor : ℕ → List ℕ → Convention → ℕ → ℕ → Lists → Answer Lists
+unfoldable pub putAnchor : (mask : ℕ) (closed : List ℕ) → Convention → (room : ℕ) → ℕ → Lists → Answer Lists
 putAnchor mask closed convention room zero l = given l
 putAnchor mask closed convention room (suc n) l = putNew mask closed convention room (suc n) (suc n) 0 l
 
@@ -118,7 +118,7 @@ ended q closed room l =
     then (putAnchor (q .mask) closed (q .convention) room (q .first .day) l)
     (putNew (q .mask) closed (q .convention) room (q .effective .day) (q .effective .day) 0)
 
-unfoldable pub backwardEnd : Request → List ℕ → ℕ → ℕ → ℕ → Lists → Answer Made
+unfoldable pub backwardEnd : Request → (closed : List ℕ) (room tries seed : ℕ) → Lists → Answer Made
 backwardEnd q closed room tries seed l = then (ended q closed room l) (λ m. given (madeBack tries seed m))
 
 abbrev pub backSeed : Request → ℕ
@@ -134,16 +134,16 @@ backward q closed room = then (begun q room) (backwardFrom q closed room)
 
 -- ---- Forward, the twentieths and the third Wednesdays
 -- CDS and CDS2015: the previous twentieth, and three months before it another one where it adjusts to a day after the effective date
-unfoldable pub putEarlier : Bool → ℕ → ℕ → Answer Lists
+unfoldable pub putEarlier : Bool → (room day : ℕ) → Answer Lists
 putEarlier true room day = then (shiftMonths day true 3) (λ earlier. put room earlier 1 nothing)
 putEarlier false room day = given nothing
 
-unfoldable pub creditOpening : Request → List ℕ → ℕ → ℕ → Answer Lists
+unfoldable pub creditOpening : Request → (closed : List ℕ) (room day : ℕ) → Answer Lists
 creditOpening q closed room day =
     then (adjusted (q .mask) closed (q .convention) day) (λ a.
     then (putEarlier (ltb (q .effective .day) a) room day) (put room day 1))
 
-unfoldable pub openingBy : Bool → Request → List ℕ → ℕ → Answer Lists
+unfoldable pub openingBy : Bool → Request → (closed : List ℕ) (room : ℕ) → Answer Lists
 openingBy true q closed room = then (previousTwentieth (q .rule) (q .effective .day)) (creditOpening q closed room)
 openingBy false q closed room = put room (q .effective .day) 1 nothing
 
@@ -161,7 +161,7 @@ tenorOn q closed day =
     advanced (q .mask) closed false (natAbs (q .tenor .length)) (q .tenor .unit) (q .convention) (q .monthend) day
 
 -- a date that becomes the seed
-unfoldable pub putSeed : ℕ → ℕ → ℕ → Lists → Answer Opened
+unfoldable pub putSeed : (room day mark : ℕ) → Lists → Answer Opened
 putSeed room day mark l = then (put room day mark l) (λ m. given (record { lists = m; seed = day }))
 
 unfoldable pub putFirst : Request → List ℕ → ℕ → Lists → Answer Opened
@@ -181,7 +181,7 @@ unfoldable pub comingTwentieth : Rule → ℕ → Answer ℕ
 comingTwentieth rule effective =
     then (nextTwentieth rule effective) (λ day. farEnough (isNear rule effective day) rule day)
 
-unfoldable pub putComing : Bool → Request → ℕ → ℕ → Lists → Answer Opened
+unfoldable pub putComing : Bool → Request → (room day : ℕ) → Lists → Answer Opened
 putComing true q room day l = given (record { lists = l; seed = newest l })
 putComing false q room day l = putSeed room day (pickN (isCredit (q .rule)) 1 0) l
 
@@ -190,7 +190,7 @@ putTwentieth true q room l =
     then (comingTwentieth (q .rule) (q .effective .day)) (λ day. putComing (eqb day (q .effective .day)) q room day l)
 putTwentieth false q room l = given (record { lists = l; seed = newest l })
 
-unfoldable pub second : ℕ → Request → List ℕ → ℕ → Lists → Answer Opened
+unfoldable pub second : ℕ → Request → (closed : List ℕ) (room : ℕ) → Lists → Answer Opened
 second zero q closed room l = putTwentieth (onTwentieths (q .rule)) q room l
 second (suc n) q closed room l = putFirst q closed room l
 
@@ -222,7 +222,7 @@ shut q closed room l =
 abbrev pub madeForth : ℕ → ℕ → Lists → Made
 madeForth tries seed l = record { dates = reverse (l .dates); flags = drop 1 (reverse (l .marks)); tries = tries; seed = seed }
 
-unfoldable pub forwardEnd : Request → List ℕ → ℕ → ℕ → ℕ → Lists → Answer Made
+unfoldable pub forwardEnd : Request → (closed : List ℕ) (room tries seed : ℕ) → Lists → Answer Made
 forwardEnd q closed room tries seed l = then (shut q closed room l) (λ m. given (madeForth tries seed m))
 
 unfoldable pub forwardFrom : Request → List ℕ → ℕ → Opened → Answer Made
@@ -234,7 +234,7 @@ unfoldable pub forward : Request → List ℕ → ℕ → Answer Made
 forward q closed room = then (opened q closed room) (forwardFrom q closed room)
 
 -- ---- by the rule in force
-unfoldable pub generateBy : Bool → Bool → Request → List ℕ → ℕ → Answer Made
+unfoldable pub generateBy : Bool → (back : Bool) → Request → (closed : List ℕ) (room : ℕ) → Answer Made
 generateBy true back q closed room = zeroDates q room
 generateBy false true q closed room = backward q closed room
 generateBy false false q closed room = forward q closed room

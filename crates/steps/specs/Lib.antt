@@ -1,16 +1,9 @@
 pub mod Rules
-pub mod RuleLaws
+pub mod Laws
 pub mod Table
-pub mod Rows
-pub mod TableLaws
 pub mod Twentieths
 pub mod Candidates
 pub mod Generate
 pub mod Finish
 pub mod Build
 pub mod Fewer
-pub mod Parts
-pub mod Met
-pub mod FewerLaws
-pub mod Counts
-pub mod ShortEnd

@@ -8,7 +8,7 @@ use lib.IntN.{natAbs}
 use Rattle.refusal.specs.Answer.{UNEVEN, BOOK, CALENDAR, NEGATIVE, TENOR, FIRST-DATE, FIRST-NOT-IMM, FIRST-WRONG-RULE, LAST-DATE, LAST-NOT-IMM, LAST-WRONG-RULE, MONTHEND, SHORTEND}
 use Rattle.period.specs.declared.Unit.{Unit}
 use Rattle.period.specs.declared.Unit.the-variants.{Days, Weeks, Months, Years}
-use Rattle.period.specs.Signed.{isNegative, isPositive}
+use Rattle.period.specs.Period.{isNegative, isPositive}
 use Rattle.date.specs.Date.{inBook}
 use Rattle.calendar.specs.Open.{calendarOk}
 use Rattle.calendar.specs.Calendar.{tenorOk}
@@ -23,7 +23,7 @@ pub record Row : Type 0 where
   pub number : ℕ
   pub holds : Bool
 
-unfoldable pub numberOr : Bool → ℕ → ℕ → ℕ
+unfoldable pub numberOr : Bool → (n rest : ℕ) → ℕ
 numberOr true n rest = n
 numberOr false n rest = rest
 
@@ -85,7 +85,7 @@ abbrev pub row : ℕ → Bool → Row
 row n b = record { number = n; holds = b }
 
 -- ---- the rows that read the rule in force
-unfoldable pub anchorRows : Rule → ℕ → Bool → ℕ → ℕ → ℕ → List Row
+unfoldable pub anchorRows : Rule → (anchor : ℕ) (outside : Bool) (range imm wrong : ℕ) → List Row
 anchorRows rule anchor outside range imm wrong =
     row range (outOfRange rule anchor outside)
     ∷ row imm (notImm rule anchor)
@@ -107,7 +107,7 @@ rowsUnder q rule =
     ∷ []))
 
 -- ---- the table; 4 and 5 read the tenor given
-unfoldable pub inputRows : Request → List ℕ → ℕ → ℕ → List Row
+unfoldable pub inputRows : Request → (closed : List ℕ) (dates flags : ℕ) → List Row
 inputRows q closed dates flags =
     row UNEVEN (not (eqb dates flags))
     ∷ row BOOK (not (datesOk q))

@@ -14,7 +14,7 @@ unfoldable pub twentiethOf : ℕ → Answer ℕ
 twentiethOf day = makeOf (fieldsOf day .year) (fieldsOf day .month) 20
 
 -- a month on, or back, where the test holds
-unfoldable pub movedIf : Bool → Bool → ℕ → ℕ → Answer ℕ
+unfoldable pub movedIf : Bool → (back : Bool) (months day : ℕ) → Answer ℕ
 movedIf true back months day = shiftMonths day back months
 movedIf false back months day = given day
 

@@ -1,7 +1,7 @@
 // The rules' numbers, the groups of rules that the steps speak of, and the rule and the tenor in force.
 ghost use mathlib.Core.Path.{_≡_};
 ghost use Rattle.steps.specs.Rules.{ruleNumber, isZero, isBackward, onTwentieths, inImmMonths, isCredit, isOldCDS, ruleInForce, tenorInForce};
-ghost use Rattle.steps.specs.Fewer.{settles};
+ghost use Rattle.steps.specs.Fewer.Steps.{settles};
 use crate::Request;
 use crate::Rule;
 use crate::tenors;

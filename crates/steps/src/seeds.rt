@@ -1,16 +1,17 @@
 // The seed that candidates are counted from.
 ghost use mathlib.Core.Path.{_≡_};
 ghost use mathlib.Core.Bool.{true, _&&_};
-ghost use Rattle.date.specs.Civil.{pickN};
-ghost use Rattle.date.specs.Date.{monthIndex};
+ghost use lib.Dec.{eqb};
+ghost use Rattle.date.specs.Civil.{monthLength, pickN};
 ghost use Rattle.calendar.specs.Open.{closedOk};
 ghost use Rattle.calendar.specs.Calendar.{decided};
-ghost use Rattle.steps.specs.Candidates.{lastDay, seedOf};
+ghost use Rattle.steps.specs.Candidates.{seedOf};
 ghost use Rattle.steps.specs.Generate.{anchorOr};
 ghost use Rattle.steps.specs.Finish.{seedAtEnd};
 use crate::Seed;
 use calendar::Decided;
-use calendar::search;
+use calendar::month_ends;
+use date::Fields;
 use date::civil;
 
 // An anchor, or the other date where it is absent.
@@ -20,28 +21,14 @@ pub fn anchor_or(anchor: u32, other: u32) -> u32
     if anchor == 0 { other } else { anchor }
 }
 
-// The null calendar's month end.
-fn is_last_day(day: u32) -> bool
-    ensures { λ r. ⌜ r ≡ lastDay day ⌝ }
-{
-    let f = civil::fields_of(day);
-    f.day == civil::month_length(f.year, f.month)
-}
-
-fn keeps_month_end(monthend: bool, day: u32) -> bool
-    ensures { λ r. ⌜ r ≡ (monthend && lastDay day) ⌝ }
+// Whether end of month is on and a day with these fields is the last of its month.
+fn keeps_month_end(monthend: bool, f: Fields) -> bool
+    ensures { λ r. ⌜ r ≡ (monthend && eqb (f .day) (monthLength (f .year) (f .month))) ⌝ }
 {
     if monthend {
-        return is_last_day(day);
+        return f.day == civil::month_length(f.year, f.month);
     }
     false
-}
-
-fn month_index(day: u32) -> u32
-    ensures { λ r. ⌜ r ≡ monthIndex day ⌝ }
-{
-    let f = civil::fields_of(day);
-    12 * f.year + f.month - 1
 }
 
 fn pick(test: bool, a: u32, b: u32) -> u32
@@ -57,8 +44,8 @@ pub fn seed_of(monthend: bool, day: u32) -> Seed
     let f = civil::fields_of(day);
     Seed {
         day,
-        month: month_index(day),
-        keep: pick(keeps_month_end(monthend, day), 31, f.day),
+        month: 12 * f.year + f.month - 1,
+        keep: pick(keeps_month_end(monthend, f), 31, f.day),
     }
 }
 
@@ -70,7 +57,7 @@ pub fn seed_at_end(monthend: bool, seed: u32, mask: u8, closed: &[u32]) -> Decid
         if seed == 0 {
             return Decided::No;
         }
-        return search::at_month_end(seed, mask, closed);
+        return month_ends::at_month_end(seed, mask, closed);
     }
     Decided::No
 }

@@ -11,12 +11,12 @@ use mir.Syntax.{w32, w64}
 use mir.Val.{Fits}
 use borrow.Author.Tests.{lt-leb}
 use Rattle.refusal.specs.Answer.{Answer, refused, BOOK}
-use Rattle.refusal.specs.Laws.{fails, after}
+use Rattle.refusal.specs.Laws.Answers.{fails, after}
 use Rattle.period.specs.declared.Unit.the-variants.{Days, Weeks, Months, Years}
 use Rattle.period.specs.declared.Period.{Period}
 use Rattle.date.specs.Date.{SPAN-FIRST, SPAN-LAST, step, shifted, shiftDays, withinSpan, inMonth}
-use Rattle.date.specs.Made.{make-early}
-use Rattle.date.specs.Moves.{month-late}
+use Rattle.date.specs.Laws.Made.{make-early}
+use Rattle.date.specs.Laws.Moves.{month-late}
 use Rattle.steps.specs.declared.Pace.{Pace}
 use Rattle.steps.specs.declared.Seed.{Seed}
 use Rattle.steps.specs.Rules.{paceBy}

@@ -12,10 +12,11 @@ use lib.Dec.{eqb, ltb}
 use borrow.Author.Tests.{lt-ltb, le-ltb, ltb-true, eq-eqb, eqb-true}
 use borrow.Author.Needs.{needs}
 use Rattle.refusal.specs.Answer.{ROOM}
-use Rattle.refusal.specs.Laws.{fails, holds}
-use Rattle.steps.specs.Generate.{put, hasRoom, newest}
+use Rattle.refusal.specs.Laws.Answers.{fails, holds}
+use Rattle.steps.specs.Generate.{put, hasRoom}
 use Rattle.working.specs.declared.Filled.the-variants.{Ready, Refused}
-use Rattle.working.specs.Part.{Part, held, lastPut, hasPlace, placeOf, filled, Placed, Filling}
+use Rattle.working.specs.Step.{gives, refuses}
+use Rattle.working.specs.Part.{Work, working, Part, held, lastPut, lastDay, hasPlace, placeOf, filled, Filling}
 use Rattle.working.specs.Held.{put-length, none-put}
 
 -- ---- places
@@ -74,44 +75,40 @@ newest-forth l n s p h =
     ap (λ (k : ℕ). reverse (take k l)) e ∙ rw (take-suc l (n - 1) 0 (omega arith)) (reverse-append (take (n - 1) l) (getD l (n - 1) 0 ∷ [])) in
     rw f
 
-pub newest-at : (back : Bool) (l : List ℕ) (n at : ℕ) → length l ≡ 4096 → 0 < n → n < 4097 → at ≡ placeOf back (n - 1) → getD l at 0 ≡ newest (held back n l l)
-unfolding placeOf held lastPut
+pub newest-at : (back : Bool) (l : List ℕ) (n at : ℕ) → length l ≡ 4096 → 0 < n → n < 4097 → at ≡ placeOf back (n - 1) → getD l at 0 ≡ lastDay back n l
+unfolding placeOf lastDay lastPut
 newest-at true l n at s p h e = rw e (newest-back l n s p (omega arith))
 newest-at false l n at s p h e = rw e (newest-forth l n s p (omega arith))
 
-pub newest-none : (back : Bool) (l : List ℕ) (n : ℕ) → length l ≡ 4096 → n ≡ 0 → 0 ≡ newest (held back n l l)
-unfolding held
+pub newest-none : (back : Bool) (l : List ℕ) (n : ℕ) → length l ≡ 4096 → n ≡ 0 → 0 ≡ lastDay back n l
+unfolding lastDay
 newest-none back l n s e = rw (e, none-put back l s) refl
 
 -- ---- put
-module _ {room n : ℕ} {work marks : List ℕ} (back : Bool) (p : Part room n work marks) (day mark : ℕ) where
-  pub put-full : room ≤ n → Filling back room (put room day mark (held back n work marks)) (Refused 14) work marks
-  unfolding put hasRoom filled Placed held
+module _ {room n : ℕ} {w : Work} (back : Bool) (p : Part room n w) (day mark : ℕ) where
+  pub put-full : room ≤ n → Filling back room (put room day mark (held back n w)) (Refused 14) w
+  unfolding put hasRoom filled held
   put-full h =
-      record {
-        says = fails ROOM _ _ (le-ltb (length (lastPut back n work)) room (let l = put-length back work n (p .work-size) (omega (arith, p)) in omega arith));
-        part = tt;
-      }
+      refuses 14 (fails ROOM _ _ (le-ltb (length (lastPut back n (w .days))) room (let l = put-length back (w .days) n (p .work-size) (omega (arith, p)) in omega arith)))
 
-  pub put-ready : (at : ℕ) → n < room → at ≡ placeOf back n → Filling back room (put room day mark (held back n work marks)) (Ready (n + 1)) (set work at day) (set marks at mark)
-  unfolding put hasRoom filled Placed held
+  pub put-ready : (at : ℕ) → n < room → at ≡ placeOf back n → Filling back room (put room day mark (held back n w)) (Ready (n + 1)) (working (set (w .days) at day) (set (w .marks) at mark))
+  unfolding put hasRoom filled held
   put-ready at h e =
-      let a = one-more back work n day (p .work-size) (omega (arith, p)) in
-      let b = one-more back marks n mark (p .marks-size) (omega (arith, p)) in
+      let a = one-more back (w .days) n day (p .work-size) (omega (arith, p)) in
+      let b = one-more back (w .marks) n mark (p .marks-size) (omega (arith, p)) in
       rw e
+      (gives (n + 1)
+      (holds ROOM _ _ _ (lt-ltb (length (lastPut back n (w .days))) room (let l = put-length back (w .days) n (p .work-size) (omega (arith, p)) in omega arith))
+      (rw (a, b)))
       (record {
-        says =
-            holds ROOM _ _ _ (lt-ltb (length (lastPut back n work)) room (let l = put-length back work n (p .work-size) (omega (arith, p)) in omega arith))
-            (rw (a, b));
-        part = (
-          record {
-            work-size = length-set work (placeOf back n) day ∙ p .work-size;
-            marks-size = length-set marks (placeOf back n) mark ∙ p .marks-size;
-            fits = omega (arith, p);
-            most = p .most;
-          },
-          omega arith,
-        );
-      })
+        part =
+            record {
+              work-size = length-set (w .days) (placeOf back n) day ∙ p .work-size;
+              marks-size = length-set (w .marks) (placeOf back n) mark ∙ p .marks-size;
+              fits = omega (arith, p);
+              most = p .most;
+            };
+        some = omega arith;
+      }))
 
 pub ruleset puts = (put-full, put-ready, needs)

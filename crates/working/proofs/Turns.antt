@@ -7,21 +7,21 @@ use Prim.Native.Nat.{ℕ}
 use lib.Dec.{ltb}
 use borrow.Author.Tests.{eq-eqb, ne-eqb}
 use Rattle.refusal.specs.Answer.{given, refused}
-use Rattle.refusal.specs.Laws.{then-given, then-refused}
+use Rattle.refusal.specs.Laws.Answers.{then-given, then-refused}
 use Rattle.date.specs.declared.Date.{Date}
 use Rattle.date.specs.declared.Dated.{Dated}
 use Rattle.date.specs.declared.Dated.the-variants.{Day, Refused}
 use Rattle.date.specs.Date.{dated}
-use Rattle.date.specs.Made.{given-day, refused-day}
+use Rattle.date.specs.Laws.Made.{given-day, refused-day}
 use Rattle.calendar.specs.declared.Convention.{Convention}
 use Rattle.calendar.specs.declared.search.Near.{Near}
 use Rattle.calendar.specs.Adjust.{adjusted}
-use Rattle.calendar.specs.Near.{OneMonth}
-use Rattle.calendar.specs.Stays.{adjust-again}
+use Rattle.calendar.specs.Inner.Near.{OneMonth}
+use Rattle.calendar.specs.Laws.Stays.{adjust-again}
 use Rattle.steps.specs.declared.Pace.{Pace}
 use Rattle.steps.specs.declared.Seed.{Seed}
 use Rattle.steps.specs.Candidates.{candidate, isPast, unlessSame}
-use Rattle.steps.specs.Fewer.{unlessPastKept, turnKept}
+use Rattle.steps.specs.Fewer.Steps.{unlessPastKept, turnKept}
 use Rattle.working.specs.declared.candidates.Turn.{Turn}
 use Rattle.working.specs.declared.candidates.Turn.the-variants.{Past, Skip, Keep, Stop}
 use Rattle.working.specs.Turning.{Front, told, Learnt, Compared}
@@ -56,30 +56,30 @@ module _ (settled : Bool) (mask : ℕ) (closed : List ℕ) (convention : Convent
     compare-closed n e = record { says = then-given _ held _ _ known (then-refused _ n _ e); learnt = tt }
 
     module _ (b : ℕ) (near : Near) (t : adjusted mask closed convention day ≡ given b) (month : OneMonth (near .from) (near .to)) where
-      pub compare-skip : held ≡ b → Compared mask closed convention newest (unlessPastKept settled false mask closed convention newest day) (Skip held near)
+      pub compare-skip : held ≡ b → Compared mask closed convention newest (unlessPastKept settled false mask closed convention newest day) (Skip (record { newest = newest; front = held; near = near }))
       unfolding unlessPastKept told Learnt unlessSame
       compare-skip e =
           record {
             says = then-given _ held _ _ known (then-given _ b _ _ t (rw (eq-eqb held b e) refl));
-            learnt = (front-from mask closed convention newest held known, month);
+            learnt = (record { front = front-from mask closed convention newest held known; month = month }, refl);
           }
 
       module _ (e : held ≡ b → ⊥) where
-        pub compare-keep : settled ≡ false → Compared mask closed convention newest (unlessPastKept settled false mask closed convention newest day) (Keep day b near)
+        pub compare-keep : settled ≡ false → Compared mask closed convention newest (unlessPastKept settled false mask closed convention newest day) (Keep (record { newest = day; front = b; near = near }))
         unfolding unlessPastKept told Learnt unlessSame
         compare-keep f =
             record {
               says = then-given _ held _ _ known (then-given _ b _ _ t (rw (ne-eqb held b e, f) refl));
-              learnt = (front-from mask closed convention day b t, month);
+              learnt = record { front = front-from mask closed convention day b t; month = month };
             }
 
         -- the date kept is adjusted already
-        pub compare-settle : settled ≡ true → Compared mask closed convention newest (unlessPastKept settled false mask closed convention newest day) (Keep b b near)
+        pub compare-settle : settled ≡ true → Compared mask closed convention newest (unlessPastKept settled false mask closed convention newest day) (Keep (record { newest = b; front = b; near = near }))
         unfolding unlessPastKept told Learnt unlessSame
         compare-settle f =
             record {
               says = then-given _ held _ _ known (then-given _ b _ _ t (rw (ne-eqb held b e, f) refl));
-              learnt = (front-from mask closed convention b b (adjust-again mask closed convention day b t), month);
+              learnt = record { front = front-from mask closed convention b b (adjust-again _ convention day b t); month = month };
             }
 
 -- ---- the k-th candidate

@@ -1,36 +1,55 @@
 -- What the functions answer that add a date unless it adjusts to the same day as the newest.
 -- Assumes nothing.
-use Prim.Native.Nat.{ℕ, _<_}
-use mathlib.Core.Path.{_≡_}
+use Prim.Native.Nat.{ℕ}
+use mathlib.Core.Path.{_≡_, refl}
 use mathlib.Core.Bool.{Bool}
 use mathlib.Core.List.{List}
-use Rattle.refusal.specs.Answer.{Answer, given, refused}
+use Rattle.refusal.specs.Answer.{Answer, given, refused, then}
 use Rattle.calendar.specs.declared.Convention.{Convention}
-use Rattle.steps.specs.Generate.{Lists, newest}
+use Rattle.steps.specs.Generate.{Lists}
+use Rattle.working.specs.declared.Tip.{Tip}
 use Rattle.working.specs.declared.adds.Added.{Added}
 use Rattle.working.specs.declared.adds.Added.the-variants.{Ready, Refused}
-use Rattle.working.specs.Part.{Part, held}
-use Rattle.working.specs.Turning.{Front}
+use Rattle.working.specs.Step.{Gives, Step, stops, goes-on}
+use Rattle.working.specs.Part.{Work, Placed, held}
+use Rattle.working.specs.Turning.{Ahead}
 
-unfoldable pub added : Bool → Added → List ℕ → List ℕ → Answer Lists
-added back (Ready n front) work marks = given (held back n work marks)
-added back (Refused k) work marks = refused k
+-- how many dates there are then, and what is known of the newest
+unfoldable pub added : Added → Answer Tip
+added (Ready tip) = given tip
+added (Refused k) = refused k
 
--- the list stands, and `front` is known of its newest date where the date compared is the one that was to be added
-unfoldable pub Sits : ℕ → List ℕ → Convention → Bool → ℕ → Type 0 → Added → List ℕ → List ℕ → Type 0
-Sits mask closed convention back room same (Ready n front) work marks =
-    Part room n work marks × (0 < n) × (same → Front mask closed convention front (newest (held back n work marks)))
-Sits mask closed convention back room same (Refused k) work marks = Unit {0}
+-- the lists stand, and the front is known of their newest date
+abbrev pub Adding : ℕ → List ℕ → Convention → Bool → ℕ → Answer Lists → Added → Work → Type 0
+Adding mask closed convention back room o r w =
+    Gives (λ t. held back (t .n) w) (Ahead mask closed convention back room w) o (added r)
 
-pub record Adding (mask : ℕ) (closed : List ℕ) (convention : Convention) (back : Bool) (room : ℕ) (same : Type 0) (o : Answer Lists) (r : Added) (work marks : List ℕ) : Type 0 where
-  pub says : added back r work marks ≡ o
-  pub sits : Sits mask closed convention back room same r work marks
+-- the promise of a step that takes lists with a newest date on
+abbrev pub Adds : (Stands : Work → Tip → Type 0) (back : Bool) (does : Lists → Answer Lists) (tip : Tip) (w : Work) (r : Added) (w′ : Work) → Type 0
+Adds Stands back does tip w r w′ =
+    Step (Stands w tip) (λ t. held back (t .n) w′) (Stands w′) (does (held back (tip .n) w)) (added r)
+
+-- ---- after such a step
+module _ {A D B P : Type 0} {view : Tip → A} {Keeps : Tip → Type 0} {view′ : D → B} {Keeps′ : D → Type 0} {o : Answer A} (f : A → Answer B) (r : Added) {r′ : Answer D} (s : Step P view Keeps o (added r)) where
+  pub added-stops : (k : ℕ) → r ≡ Refused k → P → r′ ≡ refused k → Gives view′ Keeps′ (then o f) r′
+  unfolding added
+  added-stops k e p e′ = stops f (s .run p) k (rw e) e′
+
+  pub added-on : (tip : Tip) → r ≡ Ready tip → P → (Keeps tip → Gives view′ Keeps′ (f (view tip)) r′) → Gives view′ Keeps′ (then o f) r′
+  unfolding added
+  added-on tip e p h = goes-on f (s .run p) tip (rw e) h
+
+pub added-is-refused : (k : ℕ) → added (Refused k) ≡ refused k
+unfolding added
+added-is-refused k = refl
+
+pub ruleset adds = (added-stops, added-on, added-is-refused)
 
 -- a date that was put, with the adjusted date that goes with it
-unfoldable pub Stood : ℕ → ℕ → Added → List ℕ → List ℕ → Type 0
-Stood room known (Ready n front) work marks = Part room n work marks × (0 < n) × (front ≡ known)
-Stood room known (Refused k) work marks = Unit {0}
+pub record Stood (room known : ℕ) (w : Work) (tip : Tip) : Type 0 where
+  pub placed : Placed room (tip .n) w
+  pub as-known : tip .front ≡ known
 
-pub record PutFront (back : Bool) (room known : ℕ) (o : Answer Lists) (r : Added) (work marks : List ℕ) : Type 0 where
-  pub says : added back r work marks ≡ o
-  pub stood : Stood room known r work marks
+abbrev pub PutFront : Bool → ℕ → ℕ → Answer Lists → Added → Work → Type 0
+PutFront back room known o r w =
+    Gives (λ t. held back (t .n) w) (Stood room known w) o (added r)

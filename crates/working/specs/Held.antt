@@ -7,16 +7,30 @@ use Prim.Native.Nat.{ℕ, _-_, _≤_, _<_}
 use native.Mathlib.Omega.{arith}
 use lib.ListN.{length, take, length-drop, length-reverse, drop-of-length-le}
 use lib.Seq.{length-take-le}
-use Rattle.refusal.specs.Answer.{given, ROOM}
-use Rattle.refusal.specs.Laws.{need-given}
-use Rattle.calendar.specs.Open.{closedOk}
+use borrow.Author.Tests.{lt-ltb, le-ltb}
+use Rattle.refusal.specs.Answer.{Answer, given, ROOM}
+use Rattle.refusal.specs.Laws.Answers.{need-given}
 use Rattle.steps.specs.Generate.{Lists, nothing, newest, onto, hasRoom, put}
-use Rattle.working.specs.Part.{Part, Begun, held, lastPut}
+use Rattle.working.specs.Step.{Step}
+use Rattle.working.specs.Part.{Work, Part, held, lastPut, lastDay}
 
 pub put-length : (back : Bool) (l : List ℕ) (n : ℕ) → length l ≡ 4096 → n ≤ 4096 → length (lastPut back n l) ≡ n
 unfolding lastPut
 put-length true l n s h = length-drop (4096 - n) l ∙ rw s (omega arith)
 put-length false l n s h = length-reverse (take n l) ∙ length-take-le n l (omega arith)
+
+module _ (back : Bool) {room n : ℕ} {w : Work} (p : Part room n w) where
+  held-length : length (held back n w .dates) ≡ n
+  unfolding held
+  held-length = put-length back (w .days) n (p .work-size) (omega (arith, p))
+
+  pub no-room : room ≤ n → hasRoom room (held back n w) ≡ false
+  unfolding hasRoom
+  no-room h = le-ltb (length (held back n w .dates)) room (let l = held-length in omega arith)
+
+  pub has-room : n < room → hasRoom room (held back n w) ≡ true
+  unfolding hasRoom
+  has-room h = lt-ltb (length (held back n w .dates)) room (let l = held-length in omega arith)
 
 -- nothing has been put yet
 pub none-put : (back : Bool) (l : List ℕ) → length l ≡ 4096 → lastPut back 0 l ≡ []
@@ -24,14 +38,14 @@ unfolding lastPut
 none-put true l s = drop-of-length-le l {i = 4096} (omega arith)
 none-put false l s = refl
 
-pub held-none : (back : Bool) {room : ℕ} {work marks : List ℕ} → Part room 0 work marks → held back 0 work marks ≡ nothing
+pub held-none : (back : Bool) {room : ℕ} {w : Work} → Part room 0 w → held back 0 w ≡ nothing
 unfolding held
-held-none back {room} {work} {marks} p = rw (none-put back work (p .work-size), none-put back marks (p .marks-size)) refl
+held-none back {room} {w} p = rw (none-put back (w .days) (p .work-size), none-put back (w .marks) (p .marks-size)) refl
 
 -- the newest date is that of the dates alone
-pub newest-alone : (back : Bool) (n : ℕ) (work marks : List ℕ) → newest (held back n work work) ≡ newest (held back n work marks)
-unfolding held
-newest-alone back n work marks = refl
+pub newest-alone : (back : Bool) (n : ℕ) (w : Work) → lastDay back n (w .days) ≡ newest (held back n w)
+unfolding held lastDay
+newest-alone back n w = refl
 
 -- a date that was put is the newest
 pub put-is-newest : (room day mark : ℕ) (l m : Lists) → given m ≡ put room day mark l → newest m ≡ day
@@ -41,9 +55,10 @@ put-is-newest room day mark l m h =
     let v : m ≡ onto day mark l = cc in
     rw v refl
 
--- the premises of a step, from what a build has shown
-pub in-part : {A : Type 0} {room n : ℕ} {work marks : List ℕ} → Part room n work marks → (length work ≡ 4096 → n < 4097 → A) → A
-in-part p f = f (p .work-size) (omega (arith, p))
+-- the day that the code read is the newest date
+pub newest-read : (back : Bool) {room n : ℕ} {w : Work} (day : ℕ) → Part room n w → (length (w .days) ≡ 4096 → n < 4097 → day ≡ lastDay back n (w .days)) → day ≡ newest (held back n w)
+newest-read back {n = n} {w = w} day p at = at (p .work-size) (omega (arith, p)) ∙ newest-alone back n w
 
-pub begun-of : {closed : List ℕ} {room n : ℕ} {work marks : List ℕ} → (closedOk closed ≡ true) × (0 < n) → Part room n work marks → Begun closed room n work marks
-begun-of h p = record { calendar = h .0; some = h .1; part = p }
+-- a list that is empty yet
+pub put-onto-none : {C : Type 0} {view : C → Lists} {Keeps : C → Type 0} {r : Answer C} (back : Bool) (room day mark : ℕ) (w : Work) → Step (Part room 0 w) view Keeps (put room day mark (held back 0 w)) r → Step (Part room 0 w) view Keeps (put room day mark nothing) r
+put-onto-none back room day mark w s = record { run = λ p. rw (held-none back p) at (s .run p) }

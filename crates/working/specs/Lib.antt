@@ -1,8 +1,9 @@
+pub mod Step
 pub mod Part
 pub mod Held
-pub mod Chains
+pub mod Dates
 pub mod Paces
 pub mod Turning
 pub mod Adding
 pub mod Making
-pub mod After
+pub mod Loops

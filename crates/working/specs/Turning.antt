@@ -1,55 +1,85 @@
 -- What the functions of the loop over the candidates answer and keep.
 -- Assumes nothing.
-use Prim.Native.Nat.{ℕ, _<_}
+use Prim.Native.Nat.{ℕ}
 use mathlib.Core.Path.{_≡_}
 use mathlib.Core.Bool.{Bool}
 use mathlib.Core.List.{List}
-use Rattle.refusal.specs.Answer.{Answer, given, refused}
+use Rattle.refusal.specs.Answer.{Answer, given, refused, then}
 use Rattle.calendar.specs.declared.Convention.{Convention}
 use Rattle.calendar.specs.Adjust.{adjusted}
-use Rattle.calendar.specs.Near.{OneMonth}
+use Rattle.calendar.specs.Inner.Near.{OneMonth}
 use Rattle.steps.specs.Candidates as steps
-use Rattle.steps.specs.Generate.{Walk, newest}
+use Rattle.steps.specs.Generate.{Lists, Walk, newest}
+use Rattle.steps.specs.Fewer.Steps.{turnKept}
 use Rattle.working.specs.declared.candidates.Turn.{Turn}
 use Rattle.working.specs.declared.candidates.Turn.the-variants.{Past, Skip, Keep, Stop}
 use Rattle.working.specs.declared.walks.Walked.{Walked}
 use Rattle.working.specs.declared.walks.Walked.the-variants.{Ready, Refused}
-use Rattle.working.specs.Part.{Part, held}
+use Rattle.working.specs.declared.Tip.{Tip}
+use Rattle.working.specs.Step.{Gives, Step, stops, goes-on}
+use Rattle.working.specs.declared.Course.{Course}
+use Rattle.working.specs.declared.candidates.Known.{Known}
+use Rattle.working.specs.Part.{Work, Begun, held}
 
 -- what is known of a day's adjusted date: `front`, or nothing where that is 0
 pub record Front (mask : ℕ) (closed : List ℕ) (convention : Convention) (front day : ℕ) : Type 0 where
   pub known : (front ≡ 0 → ⊥) → adjusted mask closed convention day ≡ given front
 
+-- what the loop knows is so
+pub record Knows (mask : ℕ) (closed : List ℕ) (convention : Convention) (known : Known) : Type 0 where
+  pub front : Front mask closed convention (known .front) (known .newest)
+  pub month : OneMonth (known .near .from) (known .near .to)
+
 -- ---- a turn
 unfoldable pub told : Turn → Answer steps.Turn
 told Past = given steps.past
-told (Skip front near) = given steps.skip
-told (Keep day front near) = given (steps.keep day)
+told (Skip next) = given steps.skip
+told (Keep next) = given (steps.keep (next .newest))
 told (Stop n) = refused n
 
--- what is known then of the newest date, and for the next candidate
+-- what is known then; the newest date is the same where the candidate was skipped
 unfoldable pub Learnt : ℕ → List ℕ → Convention → ℕ → Turn → Type 0
 Learnt mask closed convention newest Past = Unit {0}
-Learnt mask closed convention newest (Skip front near) =
-    Front mask closed convention front newest × OneMonth (near .from) (near .to)
-Learnt mask closed convention newest (Keep day front near) =
-    Front mask closed convention front day × OneMonth (near .from) (near .to)
+Learnt mask closed convention newest (Skip next) = Knows mask closed convention next × (next .newest ≡ newest)
+Learnt mask closed convention newest (Keep next) = Knows mask closed convention next
 Learnt mask closed convention newest (Stop n) = Unit {0}
 
 pub record Compared (mask : ℕ) (closed : List ℕ) (convention : Convention) (newest : ℕ) (o : Answer steps.Turn) (r : Turn) : Type 0 where
   pub says : told r ≡ o
   pub learnt : Learnt mask closed convention newest r
 
+-- a turn of the candidates of a course
+abbrev pub turnOn : Course → ℕ → List ℕ → Convention → Bool → ℕ → ℕ → Answer steps.Turn
+turnOn course mask closed convention back =
+    turnKept (course .settled) mask closed convention back (course .pace) (course .seed) (course .exit)
+
+-- the lists stand, and the front is known of their newest date
+pub record Ahead (mask : ℕ) (closed : List ℕ) (convention : Convention) (back : Bool) (room : ℕ) (w : Work) (tip : Tip) : Type 0 where
+  pub begun : Begun closed room (tip .n) w
+  pub front : Front mask closed convention (tip .front) (newest (held back (tip .n) w))
+
 -- ---- the walk
-unfoldable pub walked : Bool → Walked → List ℕ → List ℕ → Answer Walk
-walked back (Ready n tries front) work marks = given (record { lists = held back n work marks; tries = tries })
-walked back (Refused k) work marks = refused k
+unfoldable pub walked : Walked → Answer (Tip × ℕ)
+walked (Ready tip tries) = given (tip, tries)
+walked (Refused k) = refused k
 
-unfoldable pub Stands : ℕ → List ℕ → Convention → Bool → ℕ → Walked → List ℕ → List ℕ → Type 0
-Stands mask closed convention back room (Ready n tries front) work marks =
-    Part room n work marks × (0 < n) × Front mask closed convention front (newest (held back n work marks))
-Stands mask closed convention back room (Refused k) work marks = Unit {0}
+abbrev pub Walking : ℕ → List ℕ → Convention → Bool → ℕ → Answer Walk → Walked → Work → Type 0
+Walking mask closed convention back room o r w =
+    Gives (λ t. record { lists = held back (t .0 .n) w; tries = t .1 }) (λ t. Ahead mask closed convention back room w (t .0)) o (walked r)
 
-pub record Walking (mask : ℕ) (closed : List ℕ) (convention : Convention) (back : Bool) (room : ℕ) (o : Answer Walk) (r : Walked) (work marks : List ℕ) : Type 0 where
-  pub says : walked back r work marks ≡ o
-  pub stands : Stands mask closed convention back room r work marks
+-- the promise of the loop on lists of n dates
+abbrev pub Walks : (mask : ℕ) (closed : List ℕ) (convention : Convention) (back : Bool) (room : ℕ) (does : Lists → Answer Walk) (n : ℕ) (w : Work) (r : Walked) (w′ : Work) → Type 0
+Walks mask closed convention back room does n w r w′ =
+    Step (Begun closed room n w) (λ t. record { lists = held back (t .0 .n) w′; tries = t .1 }) (λ t. Ahead mask closed convention back room w′ (t .0)) (does (held back n w)) (walked r)
+
+-- ---- after the loop
+module _ {A D B P : Type 0} {view : Tip × ℕ → A} {Keeps : Tip × ℕ → Type 0} {view′ : D → B} {Keeps′ : D → Type 0} {o : Answer A} (f : A → Answer B) (r : Walked) {r′ : Answer D} (s : Step P view Keeps o (walked r)) where
+  pub walked-stops : (k : ℕ) → r ≡ Refused k → P → r′ ≡ refused k → Gives view′ Keeps′ (then o f) r′
+  unfolding walked
+  walked-stops k e p e′ = stops f (s .run p) k (rw e) e′
+
+  pub walked-on : (tip : Tip) (tries : ℕ) → r ≡ Ready tip tries → P → (Keeps (tip, tries) → Gives view′ Keeps′ (f (view (tip, tries))) r′) → Gives view′ Keeps′ (then o f) r′
+  unfolding walked
+  walked-on tip tries e p h = goes-on f (s .run p) (tip, tries) (rw e) h
+
+pub ruleset walks = (walked-stops, walked-on)

@@ -4,13 +4,12 @@ ghost use mathlib.Core.Bool.{true, false};
 ghost use Prim.Native.Nat.{min};
 ghost use Rattle.date.specs.Date.{dated};
 ghost use Rattle.calendar.specs.Open.{closedOk};
-ghost use Rattle.calendar.specs.Adjust.{adjusted};
-ghost use Rattle.calendar.specs.Near.{OneMonth};
 ghost use Rattle.steps.specs.Candidates.{candidate, isPast};
-ghost use Rattle.steps.specs.Fewer.{unlessPastKept, turnKept};
-ghost use Rattle.working.specs.Turning.{Front, Compared};
+ghost use Rattle.steps.specs.Fewer.Steps.{unlessPastKept};
+ghost use Rattle.working.specs.Turning.{Knows, Compared, turnOn};
 ghost use Rattle.working.specs.Paces.{pace};
-use calendar::Convention;
+use crate::Adjusting;
+use crate::Course;
 use calendar::search;
 use calendar::search::Near;
 use calendar::search::Placed;
@@ -22,12 +21,19 @@ use period::sign;
 use steps::Pace;
 use steps::Seed;
 
-// What a candidate does: it ends the loop, is skipped, is kept, or stops the build. A turn that goes on tells the adjusted
-// date of the newest date then kept, and what is known for the next candidate.
+// What the loop knows: the newest date, its adjusted date where that is known, else 0, and what is near.
+pub(crate) struct Known {
+    pub(crate) newest: u32,
+    pub(crate) front: u32,
+    pub(crate) near: Near,
+}
+
+// What a candidate does: it ends the loop, is skipped, is kept as the newest date, or stops the build. A turn that goes on tells
+// what is then known.
 pub(crate) enum Turn {
     Past,
-    Skip { front: u32, near: Near },
-    Keep { day: u32, front: u32, near: Near },
+    Skip(Known),
+    Keep(Known),
     Stop(u8),
 }
 
@@ -87,21 +93,14 @@ fn is_past(back: bool, exit: u32, day: u32) -> bool
 
 // What a candidate does that is not past the exit date; a settled build keeps it as adjusted. The known adjusted date is taken as
 // it is, and not by a call like `front_of`, whose answer would go through memory for each candidate.
-fn compare(
-    settled: bool,
-    day: u32,
-    newest: u32,
-    front: u32,
-    near: Near,
-    convention: Convention,
-    mask: u8,
-    closed: &[u32],
-) -> Turn
-    ensures { λ r. ⌜ (closedOk (now (closed .entry)) ≡ true → Front mask (now (closed .entry)) convention front newest → OneMonth (near .from) (near .to) → Compared mask (now (closed .entry)) convention newest (unlessPastKept settled false mask (now (closed .entry)) convention newest day) r) ⌝ }
+fn compare(settled: bool, day: u32, known: Known, adjusting: Adjusting, closed: &[u32]) -> Turn
+    ensures { λ r. ⌜ (closedOk (now (closed .entry)) ≡ true → Knows (adjusting .mask) (now (closed .entry)) (adjusting .convention) known → Compared (adjusting .mask) (now (closed .entry)) (adjusting .convention) (known .newest) (unlessPastKept settled false (adjusting .mask) (now (closed .entry)) (adjusting .convention) (known .newest) day) r) ⌝ }
 {
-    let mut held = front;
-    if front == 0 {
-        let found = search::adjust(newest, convention, mask, closed);
+    let convention = adjusting.convention;
+    let newest = known.newest;
+    let mut held = known.front;
+    if known.front == 0 {
+        let found = search::adjust(newest, convention, adjusting.mask, closed);
         match found {
             Dated::Refused(n) => return Turn::Stop(n),
             Dated::Day(a) => {
@@ -109,7 +108,8 @@ fn compare(
             }
         }
     }
-    let moved = search::adjust_near(day, near, convention, mask, closed);
+    let near = known.near;
+    let moved = search::adjust_near(day, near, convention, adjusting.mask, closed);
     match moved {
         Placed::Refused(n) => Turn::Stop(n),
         Placed::Day {
@@ -117,61 +117,49 @@ fn compare(
             near: beside,
         } => {
             if held == b {
-                return Turn::Skip {
+                return Turn::Skip(Known {
+                    newest,
                     front: held,
                     near: beside,
-                };
+                });
             }
             if settled {
-                return Turn::Keep {
-                    day: b,
+                return Turn::Keep(Known {
+                    newest: b,
                     front: b,
                     near: beside,
-                };
+                });
             }
-            Turn::Keep {
-                day,
+            Turn::Keep(Known {
+                newest: day,
                 front: b,
                 near: beside,
-            }
+            })
         }
     }
 }
 
 // What the k-th candidate does.
 pub(crate) fn try_candidate(
-    settled: bool,
+    course: Course,
     back: bool,
-    pace: Pace,
-    seed: Seed,
-    exit: u32,
-    convention: Convention,
-    mask: u8,
+    adjusting: Adjusting,
     closed: &[u32],
-    newest: u32,
-    front: u32,
-    near: Near,
+    known: Known,
     k: u32,
 ) -> Turn
-    ensures { λ r. ⌜ (closedOk (now (closed .entry)) ≡ true → Front mask (now (closed .entry)) convention front newest → OneMonth (near .from) (near .to) → Compared mask (now (closed .entry)) convention newest (turnKept settled mask (now (closed .entry)) convention back pace seed exit newest k) r) ⌝ }
+    ensures { λ r. ⌜ (closedOk (now (closed .entry)) ≡ true → Knows (adjusting .mask) (now (closed .entry)) (adjusting .convention) known → Compared (adjusting .mask) (now (closed .entry)) (adjusting .convention) (known .newest) (turnOn course (adjusting .mask) (now (closed .entry)) (adjusting .convention) back (known .newest) k) r) ⌝ }
 {
+    let pace = course.pace;
+    let seed = course.seed;
     let next = candidate(back, pace, seed, k);
     match next {
         Dated::Refused(n) => Turn::Stop(n),
         Dated::Day(d) => {
-            if is_past(back, exit, d.day) {
+            if is_past(back, course.exit, d.day) {
                 return Turn::Past;
             }
-            compare(
-                settled,
-                d.day,
-                newest,
-                front,
-                near,
-                convention,
-                mask,
-                closed,
-            )
+            compare(course.settled, d.day, known, adjusting, closed)
         }
     }
 }

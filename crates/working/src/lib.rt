@@ -1,6 +1,10 @@
 // The two working lists of a build, and the loop over the candidates that fills them. On lists and calendars that are not
 // as a build makes them, each function answers something; what it promises holds under the premises that it names.
 
+use calendar::Convention;
+use steps::Pace;
+use steps::Seed;
+
 // The working lists: dates and marks are put into them.
 pub mod lists;
 // Candidates: whole tenors before or after the seed.
@@ -10,20 +14,43 @@ pub mod walks;
 // Dates that are added unless they adjust to the day of the newest.
 pub mod adds;
 
+// What dates are adjusted by, beside the closed dates: the convention, and the weekdays that are closed.
+pub struct Adjusting {
+    pub convention: Convention,
+    pub mask: u8,
+}
+
+// The candidates that a loop looks at: whole tenors from a seed on up to an exit date, kept as adjusted in a settled build.
+pub struct Course {
+    pub settled: bool,
+    pub pace: Pace,
+    pub seed: Seed,
+    pub exit: u32,
+}
+
+// How many dates there are, and the newest date's adjusted date where it is known, else 0.
+pub struct Tip {
+    pub n: usize,
+    pub front: u32,
+}
+
 // How many dates there are after a date was put, or why it was not.
 pub enum Filled {
     Ready(usize),
     Refused(u8),
 }
 
-// What has been generated: n dates from a place on in the working list, and the flags between them from another place on.
+// A part of the working lists: n dates from a place on, and the flags between them from another place on; with the tries and the seed.
+pub struct Piece {
+    pub from: usize,
+    pub marked: usize,
+    pub n: usize,
+    pub tries: u32,
+    pub seed: u32,
+}
+
+// What has been generated.
 pub enum Generated {
-    Ready {
-        from: usize,
-        marked: usize,
-        n: usize,
-        tries: u32,
-        seed: u32,
-    },
+    Ready(Piece),
     Refused(u8),
 }

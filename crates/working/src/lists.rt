@@ -3,8 +3,8 @@ ghost use mathlib.Core.Path.{_≡_};
 ghost use Prim.Native.Nat.{_<_};
 ghost use lib.ListN.{length};
 ghost use Rattle.refusal.specs.Answer.{then};
-ghost use Rattle.steps.specs.Generate.{nothing, put, newest};
-ghost use Rattle.working.specs.Part.{Part, held, hasPlace, placeOf, Filling};
+ghost use Rattle.steps.specs.Generate.{nothing, put};
+ghost use Rattle.working.specs.Part.{working, Part, lastDay, hasPlace, placeOf, Fills};
 use crate::Filled;
 
 // Whether lists of these lengths have their 4,096 places, and one of them is left when n dates are there.
@@ -27,7 +27,7 @@ fn place_of(back: bool, n: usize) -> usize
 
 // The date that was put last; 0 where there is none.
 pub fn newest(back: bool, n: usize, work: &[u32]) -> u32
-    ensures { λ r. ⌜ (length (now (work .entry)) ≡ 4096 → n < 4097 → r ≡ newest (held back n (now (work .entry)) (now (work .entry)))) ⌝ }
+    ensures { λ r. ⌜ (length (now (work .entry)) ≡ 4096 → n < 4097 → r ≡ lastDay back n (now (work .entry))) ⌝ }
 {
     if n == 0 {
         return 0;
@@ -49,7 +49,7 @@ pub fn put(
     work: &mut [u32],
     marks: &mut [u8],
 ) -> Filled
-    ensures { λ r. ⌜ (Part room n (now (work .entry)) (now (marks .entry)) → Filling back room (put room day mark (held back n (now (work .entry)) (now (marks .entry)))) r (now (work .exit)) (now (marks .exit))) ⌝ }
+    ensures { λ r. ⌜ Fills (Part room) back room (put room day mark) n (working (now (work .entry)) (now (marks .entry))) r (working (now (work .exit)) (now (marks .exit))) ⌝ }
 {
     if room <= n {
         return Filled::Refused(refusal::ROOM);
@@ -63,6 +63,20 @@ pub fn put(
     Filled::Refused(refusal::ROOM)
 }
 
+// The first date of a list.
+pub fn put_first(
+    back: bool,
+    room: usize,
+    day: u32,
+    mark: u8,
+    work: &mut [u32],
+    marks: &mut [u8],
+) -> Filled
+    ensures { λ r. ⌜ Fills (Part room) back room (λ _. put room day mark nothing) 0 (working (now (work .entry)) (now (marks .entry))) r (working (now (work .exit)) (now (marks .exit))) ⌝ }
+{
+    put(back, 0, room, day, mark, work, marks)
+}
+
 // Two dates, the first of a list.
 pub fn put_two(
     back: bool,
@@ -72,11 +86,11 @@ pub fn put_two(
     work: &mut [u32],
     marks: &mut [u8],
 ) -> Filled
-    ensures { λ r. ⌜ (Part room 0 (now (work .entry)) (now (marks .entry)) → Filling back room (then (put room one 1 nothing) (put room two 1)) r (now (work .exit)) (now (marks .exit))) ⌝ }
+    ensures { λ r. ⌜ Fills (Part room) back room (λ _. then (put room one 1 nothing) (put room two 1)) 0 (working (now (work .entry)) (now (marks .entry))) r (working (now (work .exit)) (now (marks .exit))) ⌝ }
 {
-    let first = put(back, 0, room, one, 1, work, marks);
-    match first {
-        Filled::Refused(k) => Filled::Refused(k),
-        Filled::Ready(n) => put(back, n, room, two, 1, work, marks),
-    }
+    let n = match put_first(back, room, one, 1, work, marks) {
+        Filled::Refused(k) => return Filled::Refused(k),
+        Filled::Ready(n) => n,
+    };
+    put(back, n, room, two, 1, work, marks)
 }

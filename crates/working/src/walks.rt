@@ -1,98 +1,80 @@
 // The loop over the candidates.
-ghost use Rattle.steps.specs.Fewer.{turnKept};
 ghost use Rattle.steps.specs.Generate.{lastTry, walk};
-ghost use Rattle.working.specs.Part.{Begun, held};
-ghost use Rattle.working.specs.Turning.{Walking};
+ghost use Rattle.working.specs.Part.{working};
+ghost use Rattle.working.specs.Turning.{turnOn, Walks};
+use crate::Adjusting;
+use crate::Course;
 use crate::Filled;
+use crate::Tip;
 use crate::candidates;
+use crate::candidates::Known;
 use crate::candidates::Turn;
 use crate::lists;
-use calendar::Convention;
 use calendar::search;
 use calendar::search::Near;
 use date::span;
-use steps::Pace;
-use steps::Seed;
 
-// What the loop leaves: how many dates, the tries, and the newest date's adjusted date where it is known, else 0.
+// What the loop leaves, and the tries.
 pub enum Walked {
-    Ready { n: usize, tries: u32, front: u32 },
+    Ready { tip: Tip, tries: u32 },
     Refused(u8),
 }
 
 // Candidates are put behind the `start` dates that are there, as adjusted in a settled build, up to the first beyond the exit
 // date. No candidate beyond the number of the span's last day is a day of it, so 2 is what the loop would meet there.
 pub fn walk(
-    settled: bool,
+    course: Course,
     back: bool,
-    pace: Pace,
-    seed: Seed,
-    exit: u32,
-    convention: Convention,
-    mask: u8,
+    room: usize,
+    adjusting: Adjusting,
     closed: &[u32],
     start: usize,
-    room: usize,
     work: &mut [u32],
     marks: &mut [u8],
 ) -> Walked
-    ensures { λ r. ⌜ (Begun (now (closed .entry)) room start (now (work .entry)) (now (marks .entry)) → Walking mask (now (closed .entry)) convention back room (walk (turnKept settled mask (now (closed .entry)) convention back pace seed exit) room lastTry 1 (held back start (now (work .entry)) (now (marks .entry)))) r (now (work .exit)) (now (marks .exit))) ⌝ }
+    ensures { λ r. ⌜ Walks (adjusting .mask) (now (closed .entry)) (adjusting .convention) back room (walk (turnOn course (adjusting .mask) (now (closed .entry)) (adjusting .convention) back) room lastTry 1) start (working (now (work .entry)) (now (marks .entry))) r (working (now (work .exit)) (now (marks .exit))) ⌝ }
 {
-    let way = search::convention_on(convention, mask, closed);
+    let convention = adjusting.convention;
+    let mask = adjusting.mask;
+    let way = Adjusting {
+        convention: search::convention_on(convention, mask, closed),
+        mask,
+    };
     let mut n = start;
     let mut k: u32 = 1;
-    let mut front: u32 = 0;
-    let mut near = Near {
-        place: 0,
-        from: 1,
-        to: 0,
+    let mut known = Known {
+        newest: lists::newest(back, n, work),
+        front: 0,
+        near: Near::NOTHING,
     };
-    let mut newest = lists::newest(back, n, work);
     while k <= span::LAST {
-        let t = candidates::try_candidate(
-            settled,
-            back,
-            pace,
-            seed,
-            exit,
-            way,
-            mask,
-            closed,
-            newest,
-            front,
-            near,
-            k,
-        );
+        let t = candidates::try_candidate(course, back, way, closed, known, k);
         match t {
             Turn::Stop(r) => {
                 return Walked::Refused(r);
             }
             Turn::Past => {
-                return Walked::Ready { n, tries: k, front };
+                return Walked::Ready {
+                    tip: Tip {
+                        n,
+                        front: known.front,
+                    },
+                    tries: k,
+                };
             }
-            Turn::Skip {
-                front: a,
-                near: beside,
-            } => {
-                front = a;
-                near = beside;
+            Turn::Skip(next) => {
+                known = next;
                 k += 1;
             }
-            Turn::Keep {
-                day,
-                front: b,
-                near: beside,
-            } => {
-                let put = lists::put(back, n, room, day, 1, work, marks);
+            Turn::Keep(next) => {
+                let put = lists::put(back, n, room, next.newest, 1, work, marks);
                 match put {
                     Filled::Refused(r) => {
                         return Walked::Refused(r);
                     }
                     Filled::Ready(m) => {
                         n = m;
-                        newest = day;
-                        front = b;
-                        near = beside;
+                        known = next;
                         k += 1;
                     }
                 }

@@ -1,9 +1,11 @@
 -- `backwards::backward_from` meets its contract.
 -- Assumes nothing.
-use Rattle.working.specs.Held.{begun-of}
+use Rattle.steps.specs.Fewer.Steps.{keptFrom}
+use Rattle.working.specs.Step.{step-as}
+use Rattle.working.specs.Turning.{walked-stops, walked-on}
+use Rattle.working.specs.Making.{generated-is-refused}
+use Rattle.working.specs.Loops.{loop-is}
 use Rattle.backwards.proofs.Backing.{back-end-seed}
-use Rattle.steps.specs.Fewer.{keptFrom}
-use Rattle.working.specs.After.{walking-as, walked-stands, walked-ends, walked-makes, generates-as, loop-is}
 use borrow.Author.Needs.{needs}
 use Rattle.backwards.proofs.backward_from.Statement.{statement}
 use Rattle.backwards.proofs.backward_from.Tie as tie
@@ -11,9 +13,9 @@ use Rattle.backwards.proofs.backward_from.Reads as reads
 use Rattle.backwards.proofs.backward_from.Lts as lts
 use Rattle.steps.proofs.seeds.anchor_or.Reads as anchor-or-reads
 use Rattle.backwards.proofs.ending.backward_end.Reads as backward-end-reads
-use Rattle.working.proofs.walks.walk.Reads as walk-reads
-use Rattle.steps.proofs.seeds.seed_of.Reads as seed-of-reads
 use Rattle.steps.proofs.rules.settles.Reads as settles-reads
+use Rattle.steps.proofs.seeds.seed_of.Reads as seed-of-reads
+use Rattle.working.proofs.walks.walk.Reads as walk-reads
 
 anchor-or-requires : tie.Need-anchor-or-requires
 anchor-or-requires c κs = search needs
@@ -47,9 +49,15 @@ same-length-2 c = search needs
 
 returns : tie.Need-returns
 unfolding keptFrom
-returns c = λ paced b.
-    let is = loop-is (c .before .before .before .before .before .before .before .before .before .before .before .before .before .before .before .before .before .args .q) _ _ _ _ _ _ _ _ _ _ _ _ (c .before .before .before .before .before .before .before .before .before .before .settles .ensures) paced (c .before .before .before .before .before .before .before .before .before .before .before .seed-of .ensures) (c .before .before .before .before .before .before .before .before .before .before .before .before .before .anchor-or .ensures) (c .before .before .before .before .before .before .before .before .before .before .before .before .anchor-or2 .ensures) in
-    walked-ends (walking-as is (c .before .before .before .before .before .before .before .walk .ensures b)) _ _ (c .before .walked .given .1)
+returns c =
+    let stop : tie.After-walked = search in
+    let loop : tie.After-walk = search in
+    let kept : tie.After-settles = search in
+    let seed : tie.After-seed-of = search in
+    let exit : tie.After-anchor-or2 = search in
+    let day : tie.After-anchor-or = search in
+    let start : tie.Start = search in
+    record { run = λ h. walked-stops _ _ (step-as (loop-is (start .args .q) _ _ _ _ _ _ _ _ _ _ _ _ (kept .settles .ensures) (h .0) (seed .seed-of .ensures) (day .anchor-or .ensures) (exit .anchor-or2 .ensures)) (loop .walk .ensures)) _ (stop .walked .given .1) (h .1) (generated-is-refused _) }
 
 same-length-3 : tie.Need-same-length-3
 same-length-3 c = search needs
@@ -59,22 +67,25 @@ same-length-4 c = search needs
 
 returns-2 : tie.Need-returns-2
 unfolding keptFrom
-returns-2 c = λ paced b.
-    let is = loop-is (c .before .before .before .before .before .before .before .before .before .before .before .before .before .before .before .before .before .before .before .before .before .before .before .before .args .q) _ _ _ _ _ _ _ _ _ _ _ _ (c .before .before .before .before .before .before .before .before .before .before .before .before .before .before .before .before .before .settles .ensures) paced (c .before .before .before .before .before .before .before .before .before .before .before .before .before .before .before .before .before .before .seed-of .ensures) (c .before .before .before .before .before .before .before .before .before .before .before .before .before .before .before .before .before .before .before .before .anchor-or .ensures) (c .before .before .before .before .before .before .before .before .before .before .before .before .before .before .before .before .before .before .before .anchor-or2 .ensures) in
-    let a = walking-as is (c .before .before .before .before .before .before .before .before .before .before .before .before .before .before .walk .ensures b) in
-    let e = c .before .before .before .before .before .before .before .before .walked2 .given .1 in
-    let p = walked-stands a _ _ _ e in
-    walked-makes a _ _ _ _ _ _ _ e
-    (generates-as (back-end-seed _ _ _ _ _ _ _ (c .before .before .before .before .before .before .before .before .before .before .before .before .before .before .before .before .before .before .before .before .anchor-or .ensures)) (c .before .before .before .before .backward-end .ensures (begun-of (b .calendar, p .1) (p .0)) (p .2)))
+returns-2 c =
+    let end : tie.After-backward-end = search in
+    let ready : tie.After-walked2 = search in
+    let loop : tie.After-walk = search in
+    let kept : tie.After-settles = search in
+    let seed : tie.After-seed-of = search in
+    let exit : tie.After-anchor-or2 = search in
+    let day : tie.After-anchor-or = search in
+    let start : tie.Start = search in
+    record { run = λ h. walked-on _ _ (step-as (loop-is (start .args .q) _ _ _ _ _ _ _ _ _ _ _ _ (kept .settles .ensures) (h .0) (seed .seed-of .ensures) (day .anchor-or .ensures) (exit .anchor-or2 .ensures)) (loop .walk .ensures)) _ _ (ready .walked2 .given .1) (h .1) (λ a. back-end-seed _ _ _ _ _ _ _ (day .anchor-or .ensures) (end .backward-end .ensures .run a)) }
 
 pub backward-from-spec : {M : Type 1} → statement M
 backward-from-spec =
     tie.close
     (tie.spec
     anchor-or-requires
-    anchor-or-requires-2
-    seed-of-requires
     settles-requires
+    seed-of-requires
+    anchor-or-requires-2
     walk-requires
     enum-known-walked
     enum-known-walked-2

@@ -4,7 +4,7 @@ use mathlib.Core.Path.{refl}
 use mathlib.Core.Bool.{true, false}
 use denote.Enum.Declared.{tagOf}
 use Rattle.steps.specs.Rules.{rules, ruleNumber, oneOf}
-use Rattle.steps.specs.RuleLaws.{agree, keep, keysOf, tagsAre, told}
+use Rattle.steps.specs.Laws.Rules.{agree, keep, keysOf, tagsAre, told}
 use Rattle.steps.specs.Table.{monthendAllowed}
 use Rattle.steps.proofs.Rule.{the-type}
 use Rattle.checks.proofs.allows_month_end.Statement.{statement}

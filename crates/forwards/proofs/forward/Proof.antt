@@ -1,8 +1,9 @@
 -- `forwards::forward` meets its contract.
 -- Assumes nothing.
-use Rattle.working.specs.Held.{begun-of}
 use Rattle.steps.specs.Generate.{forward}
-use Rattle.forwards.proofs.Forthing.{opens-part, opens-ends, opens-makes}
+use Rattle.working.specs.Part.{begun}
+use Rattle.opening.specs.Opening.{opened-stops, opened-on}
+use Rattle.working.specs.Making.{generated-is-refused}
 use borrow.Author.Needs.{needs}
 use Rattle.forwards.proofs.forward.Statement.{statement}
 use Rattle.forwards.proofs.forward.Tie as tie
@@ -31,7 +32,10 @@ same-length-2 c = search needs
 
 returns : tie.Need-returns
 unfolding forward
-returns c = λ ok p. opens-ends (c .before .before .before .before .before .before .before .open-forward .ensures (ok .calendar) p) _ _ (c .before .opened .given .1)
+returns c =
+    let stop : tie.After-opened = search in
+    let opened : tie.After-open-forward = search in
+    record { run = λ b. opened-stops _ _ (opened .open-forward .ensures) _ (stop .opened .given .1) (record { calendar = b .checked .calendar; part = b .part }) (generated-is-refused _) }
 
 same-length-3 : tie.Need-same-length-3
 same-length-3 c = search needs
@@ -41,11 +45,11 @@ same-length-4 c = search needs
 
 returns-2 : tie.Need-returns-2
 unfolding forward
-returns-2 c = λ ok p.
-    let a = c .before .before .before .before .before .before .before .before .before .before .before .before .before .before .open-forward .ensures (ok .calendar) p in
-    let e = c .before .before .before .before .before .before .before .before .opened2 .given .1 in
-    let h = opens-part a _ _ e in
-    opens-makes a _ _ _ _ _ _ e (c .before .before .before .before .forward-from .ensures ok (begun-of (ok .calendar, h .1) (h .0)))
+returns-2 c =
+    let rest : tie.After-forward-from = search in
+    let ready : tie.After-opened2 = search in
+    let opened : tie.After-open-forward = search in
+    record { run = λ b. opened-on _ _ (opened .open-forward .ensures) _ _ (ready .opened2 .given .1) (record { calendar = b .checked .calendar; part = b .part }) (λ p. rest .forward-from .ensures .run (b .checked, begun (b .checked .calendar) p)) }
 
 pub forward-spec : {M : Type 1} → statement M
 forward-spec =

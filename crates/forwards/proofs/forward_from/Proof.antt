@@ -1,20 +1,22 @@
 -- `forwards::forward_from` meets its contract.
 -- Assumes nothing.
-use Rattle.working.specs.Held.{begun-of}
-use Rattle.working.specs.Paces.{pace-checked}
 use mathlib.Core.Path.{refl, _∙_}
 use Rattle.steps.specs.Generate.{forwardFrom}
-use Rattle.working.specs.After.{walking-as, walked-stands, walked-ends, walked-makes, plain-loop-is}
+use Rattle.working.specs.Step.{step-as}
+use Rattle.working.specs.Paces.{pace-checked}
+use Rattle.working.specs.Turning.{walked-stops, walked-on}
+use Rattle.working.specs.Making.{generated-is-refused}
+use Rattle.working.specs.Loops.{plain-loop-is}
 use borrow.Author.Needs.{needs}
 use Rattle.forwards.proofs.forward_from.Statement.{statement}
 use Rattle.forwards.proofs.forward_from.Tie as tie
 use Rattle.forwards.proofs.forward_from.Reads as reads
 use Rattle.forwards.proofs.forward_from.Lts as lts
 use Rattle.steps.proofs.seeds.anchor_or.Reads as anchor-or-reads
-use Rattle.working.proofs.candidates.pace_of.Reads as pace-of-reads
 use Rattle.forwards.proofs.closing.forward_end.Reads as forward-end-reads
-use Rattle.working.proofs.walks.walk.Reads as walk-reads
 use Rattle.steps.proofs.seeds.seed_of.Reads as seed-of-reads
+use Rattle.working.proofs.candidates.pace_of.Reads as pace-of-reads
+use Rattle.working.proofs.walks.walk.Reads as walk-reads
 
 pace-of-requires : tie.Need-pace-of-requires
 pace-of-requires c κs = search needs
@@ -45,9 +47,13 @@ same-length-2 c = search needs
 
 returns : tie.Need-returns
 unfolding forwardFrom
-returns c = λ ok b.
-    let is = plain-loop-is _ _ _ _ _ _ _ _ _ _ _ (c .before .before .before .before .before .before .before .before .before .before .before .before .pace-of .ensures ∙ pace-checked _ (ok .tenor)) (c .before .before .before .before .before .before .before .before .before .before .seed-of .ensures) refl (c .before .before .before .before .before .before .before .before .before .before .before .anchor-or .ensures) in
-    walked-ends (walking-as is (c .before .before .before .before .before .before .before .walk .ensures b)) _ _ (c .before .walked .given .1)
+returns c =
+    let stop : tie.After-walked = search in
+    let loop : tie.After-walk = search in
+    let seed : tie.After-seed-of = search in
+    let exit : tie.After-anchor-or = search in
+    let pace : tie.After-pace-of = search in
+    record { run = λ h. walked-stops _ _ (step-as (plain-loop-is _ _ _ _ _ _ _ _ _ _ _ (pace .pace-of .ensures ∙ pace-checked _ (h .0 .tenor)) (seed .seed-of .ensures) refl (exit .anchor-or .ensures)) (loop .walk .ensures)) _ (stop .walked .given .1) (h .1) (generated-is-refused _) }
 
 same-length-3 : tie.Need-same-length-3
 same-length-3 c = search needs
@@ -57,20 +63,22 @@ same-length-4 c = search needs
 
 returns-2 : tie.Need-returns-2
 unfolding forwardFrom
-returns-2 c = λ ok b.
-    let is = plain-loop-is _ _ _ _ _ _ _ _ _ _ _ (c .before .before .before .before .before .before .before .before .before .before .before .before .before .before .before .before .before .before .before .pace-of .ensures ∙ pace-checked _ (ok .tenor)) (c .before .before .before .before .before .before .before .before .before .before .before .before .before .before .before .before .before .seed-of .ensures) refl (c .before .before .before .before .before .before .before .before .before .before .before .before .before .before .before .before .before .before .anchor-or .ensures) in
-    let a = walking-as is (c .before .before .before .before .before .before .before .before .before .before .before .before .before .before .walk .ensures b) in
-    let e = c .before .before .before .before .before .before .before .before .walked2 .given .1 in
-    let p = walked-stands a _ _ _ e in
-    walked-makes a _ _ _ _ _ _ _ e (c .before .before .before .before .forward-end .ensures (begun-of (b .calendar, p .1) (p .0)) (p .2))
+returns-2 c =
+    let end : tie.After-forward-end = search in
+    let ready : tie.After-walked2 = search in
+    let loop : tie.After-walk = search in
+    let seed : tie.After-seed-of = search in
+    let exit : tie.After-anchor-or = search in
+    let pace : tie.After-pace-of = search in
+    record { run = λ h. walked-on _ _ (step-as (plain-loop-is _ _ _ _ _ _ _ _ _ _ _ (pace .pace-of .ensures ∙ pace-checked _ (h .0 .tenor)) (seed .seed-of .ensures) refl (exit .anchor-or .ensures)) (loop .walk .ensures)) _ _ (ready .walked2 .given .1) (h .1) (λ a. end .forward-end .ensures .run a) }
 
 pub forward-from-spec : {M : Type 1} → statement M
 forward-from-spec =
     tie.close
     (tie.spec
     pace-of-requires
-    anchor-or-requires
     seed-of-requires
+    anchor-or-requires
     walk-requires
     enum-known-walked
     enum-known-walked-2

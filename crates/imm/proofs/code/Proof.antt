@@ -1,7 +1,7 @@
 -- `imm::code` meets its contract.
 -- Assumes nothing.
 use Rattle.refusal.specs.Answer.{then}
-use Rattle.refusal.specs.Laws.{passed, failed}
+use Rattle.refusal.specs.Laws.Answers.{passed, failed}
 use Rattle.date.specs.Date.{dated}
 use Rattle.imm.specs.Imm.{coded, codeIn, codeAfter}
 use borrow.Author.Needs.{needs}

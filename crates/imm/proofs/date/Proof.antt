@@ -1,7 +1,7 @@
 -- `imm::date` meets its contract.
 -- Assumes nothing.
 use native.Mathlib.Omega.{arith}
-use Rattle.refusal.specs.Laws.{passed, failed}
+use Rattle.refusal.specs.Laws.Answers.{passed, failed}
 use Rattle.date.specs.Date.{dated}
 use Rattle.imm.proofs.Ways.{code-length, code-digit}
 use Rattle.imm.specs.Imm.{dateIn, codeMonth, codeDigit}

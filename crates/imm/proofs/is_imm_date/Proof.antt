@@ -2,7 +2,7 @@
 -- Assumes nothing.
 use mathlib.Core.Path.{ap}
 use Rattle.refusal.specs.Answer.{given}
-use Rattle.refusal.specs.Laws.{passed, failed}
+use Rattle.refusal.specs.Laws.Answers.{passed, failed}
 use Rattle.imm.specs.Imm.{tested, isImmIn}
 use borrow.Author.Needs.{needs}
 use Rattle.imm.proofs.is_imm_date.Statement.{statement}

@@ -1,6 +1,6 @@
 -- `imm::next_date` meets its contract.
 -- Assumes nothing.
-use Rattle.refusal.specs.Laws.{passed, failed}
+use Rattle.refusal.specs.Laws.Answers.{passed, failed}
 use Rattle.date.specs.Date.{dated}
 use Rattle.imm.specs.Imm.{nextIn}
 use borrow.Author.Needs.{needs}

@@ -1,8 +1,8 @@
 -- `imm::next_date_with_code` meets its contract.
 -- Assumes nothing.
-use Rattle.refusal.specs.Laws.{then-given, then-refused}
+use Rattle.refusal.specs.Laws.Answers.{then-given, then-refused}
 use Rattle.date.specs.Date.{dated}
-use Rattle.date.specs.Made.{given-day, refused-day}
+use Rattle.date.specs.Laws.Made.{given-day, refused-day}
 use Rattle.imm.specs.Imm.{nextWithCode}
 use borrow.Author.Needs.{needs}
 use Rattle.imm.proofs.next_date_with_code.Statement.{statement}

@@ -1,6 +1,6 @@
 -- `plain::is_straight` meets its contract.
 -- Assumes nothing.
-use Rattle.plain.specs.Asked.{isStraight}
+use Rattle.plain.specs.PlainTests.{isStraight}
 use Rattle.plain.proofs.Ways.{straight-tests}
 use borrow.Author.Needs.{needs}
 use Rattle.plain.proofs.is_straight.Statement.{statement}

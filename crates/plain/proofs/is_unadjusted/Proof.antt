@@ -1,6 +1,6 @@
 -- `plain::is_unadjusted` meets its contract.
 -- Assumes nothing.
-use Rattle.plain.specs.Asked.{isUnadjusted}
+use Rattle.plain.specs.PlainTests.{isUnadjusted}
 use borrow.Author.Needs.{needs}
 use Rattle.plain.proofs.is_unadjusted.Statement.{statement}
 use Rattle.plain.proofs.is_unadjusted.Tie as tie

@@ -27,7 +27,12 @@ same-length : tie.Need-same-length
 same-length c = search needs
 
 returns : tie.Need-returns
-returns c = put-then (put-then (put-then (c .before .before .before .before .before .before .before .before .before .before .before .before .before .before .before .before .put-bytes .ensures) (c .before .before .before .before .before .before .before .before .before .before .before .put-bytes2 .ensures)) (c .before .before .before .before .before .before .before .put-bytes3 .ensures)) (c .before .before .put-bytes4 .ensures)
+returns c =
+    let put-bytes4 : tie.After-put-bytes4 = search in
+    let put-bytes3 : tie.After-put-bytes3 = search in
+    let put-bytes2 : tie.After-put-bytes2 = search in
+    let put-bytes : tie.After-put-bytes = search in
+    put-then (put-then (put-then (put-bytes .put-bytes .ensures) (put-bytes2 .put-bytes2 .ensures)) (put-bytes3 .put-bytes3 .ensures)) (put-bytes4 .put-bytes4 .ensures)
 
 pub put-header-spec : {M : Type 1} → statement M
 put-header-spec =

@@ -42,7 +42,13 @@ same-length : tie.Need-same-length
 same-length c = search needs
 
 returns-2 : tie.Need-returns-2
-returns-2 c = refusal-put (c .before .before .before .before .before .before .before .before .before .before .before .before .before .before .before .before .before .spell .ensures) (c .before .before .before .before .before .before .before .before .before .before .before .before .before .before .before .if1 .left) (c .before .before .before .before .before .before .before .before .before .before .before .before .put-bytes .ensures) (c .before .before .before .before .before .before .put-bytes2 .ensures) (c .before .before .put-byte .ensures)
+returns-2 c =
+    let put-byte : tie.After-put-byte = search in
+    let put-bytes2 : tie.After-put-bytes2 = search in
+    let put-bytes : tie.After-put-bytes = search in
+    let else1 : tie.Else1 = search in
+    let spell : tie.After-spell = search in
+    refusal-put (spell .spell .ensures) (else1 .if1 .left) (put-bytes .put-bytes .ensures) (put-bytes2 .put-bytes2 .ensures) (put-byte .put-byte .ensures)
 
 pub refusal-spec : {M : Type 1} → statement M
 refusal-spec =

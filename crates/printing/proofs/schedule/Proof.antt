@@ -45,19 +45,42 @@ part-put-header-end-2 : tie.Need-part-put-header-end-2
 part-put-header-end-2 c = search needs
 
 put-header-requires : tie.Need-put-header-requires
-put-header-requires c κs = header-room (c .before .before .before .before .before .before .before .before .before .before .before .before .before .before .before .before .args .dates .now) (c .before .before .before .before .before .before .before .before .before .before .before .before .before .before .before .before .args .flags .now) (c .before .before .before .before .before .before .before .before .before .before .before .spell .ensures) (c .before .before .before .before .before .before .before .before .spell2 .ensures) _ (c .before .before .before .before .before .before .before .before .before .before .before .before .before .before .before .before .args .out .now) (c .before .before .before .before .before .before .has-room .ensures) (c .before .before .before .before .before .if1 .taken)
+put-header-requires c κs =
+    let then1 : tie.Then1 = search in
+    let has-room : tie.After-has-room = search in
+    let spell2 : tie.After-spell2 = search in
+    let spell : tie.After-spell = search in
+    let start : tie.Start = search in
+    header-room (start .args .dates .now) (start .args .flags .now) (spell .spell .ensures) (spell2 .spell2 .ensures) _ (start .args .out .now) (has-room .has-room .ensures) (then1 .if1 .taken)
 
 put-lines-requires : tie.Need-put-lines-requires
-put-lines-requires c κs = lines-room (c .before .before .before .before .before .before .before .before .before .before .before .before .before .before .before .before .before .before .before .before .args .dates .now) (c .before .before .before .before .before .before .before .before .before .before .before .before .before .before .before .before .before .before .before .before .args .flags .now) (c .before .before .before .before .before .before .before .before .before .before .before .before .before .before .before .spell .ensures) (c .before .before .before .before .before .before .before .before .before .before .before .before .spell2 .ensures) _ (c .before .before .before .before .before .before .before .before .before .before .has-room .ensures) (c .before .before .before .before .before .before .before .before .before .if1 .taken) (c .before .before .before .put-header .ensures)
+put-lines-requires c κs =
+    let put-header : tie.After-put-header = search in
+    let then1 : tie.Then1 = search in
+    let has-room : tie.After-has-room = search in
+    let spell2 : tie.After-spell2 = search in
+    let spell : tie.After-spell = search in
+    let start : tie.Start = search in
+    lines-room (start .args .dates .now) (start .args .flags .now) (spell .spell .ensures) (spell2 .spell2 .ensures) _ (has-room .has-room .ensures) (then1 .if1 .taken) (put-header .put-header .ensures)
 
 same-length : tie.Need-same-length
 same-length c = search needs
 
 returns : tie.Need-returns
-returns c = schedule-put _ _ (c .before .before .before .before .before .before .before .before .before .before .before .before .before .before .before .before .before .before .spell .ensures) (c .before .before .before .before .before .before .before .before .before .before .before .before .before .before .before .spell2 .ensures) _ (c .before .before .before .before .before .before .before .before .before .before .before .before .before .has-room .ensures) (c .before .before .before .before .before .before .before .before .before .before .before .before .if1 .taken) (c .before .before .before .before .before .before .put-header .ensures) (c .before .before .put-lines .ensures)
+returns c =
+    let put-lines : tie.After-put-lines = search in
+    let put-header : tie.After-put-header = search in
+    let then1 : tie.Then1 = search in
+    let has-room : tie.After-has-room = search in
+    let spell2 : tie.After-spell2 = search in
+    let spell : tie.After-spell = search in
+    schedule-put _ _ (spell .spell .ensures) (spell2 .spell2 .ensures) _ (has-room .has-room .ensures) (then1 .if1 .taken) (put-header .put-header .ensures) (put-lines .put-lines .ensures)
 
 returns-2 : tie.Need-returns-2
-returns-2 c = schedule-none _ _ (c .before .before .before .before .before .before .spell .ensures) (c .before .before .before .spell2 .ensures) _ _ (c .before .has-room .ensures) (c .if1 .left)
+returns-2 c =
+    let spell2 : tie.After-spell2 = search in
+    let spell : tie.After-spell = search in
+    schedule-none _ _ (spell .spell .ensures) (spell2 .spell2 .ensures) _ _ (c .before .has-room .ensures) (c .if1 .left)
 
 pub schedule-spec : {M : Type 1} → statement M
 schedule-spec =

@@ -2,7 +2,7 @@
 -- Assumes nothing.
 use mathlib.Core.Path.{refl}
 use Rattle.recorded.proofs.Recording.{reported-short, reported-refused, reported-built}
-use Rattle.crossing.specs.Calls.{request-named, request-unnamed}
+use Rattle.crossing.specs.Laws.Calls.{request-named, request-unnamed}
 use borrow.Author.Needs.{needs}
 use Rattle.recorded.proofs.build.Statement.{statement}
 use Rattle.recorded.proofs.build.Tie as tie
@@ -48,10 +48,11 @@ same-length-3 c = search needs
 
 returns-2 : tie.Need-returns-2
 returns-2 c =
-    let told = c .before .before in
-    let built = told .before .before .before .before .before .before in
-    let request = built .before .before .before .before in
-    reported-built _ _ _ _ _ (told .report .ok) (request .before .before .if1 .left) _ _ (told .report .ensures .0) (told .report .ensures .1)
+    let told : tie.After-report = search in
+    let built : tie.After-build = search in
+    let request : tie.After-request = search in
+    let room : tie.Else1 = search in
+    reported-built _ _ _ _ _ (told .report .ok) (room .if1 .left) _ _ (told .report .ensures .0) (told .report .ensures .1)
     _ _ _ (request-named refl _ (request .request .given .1)) (built .build .ensures)
 
 same-length-4 : tie.Need-same-length-4
@@ -59,10 +60,12 @@ same-length-4 c = search needs
 
 returns-3 : tie.Need-returns-3
 returns-3 c =
-    let told = c .before .before in
-    let request = told .before .before .before .before in
-    reported-refused _ _ _ _ _ (told .report2 .ok) (request .before .before .if1 .left) _ _ (told .report2 .ensures .0) (told .report2 .ensures .1)
-    _ (request-unnamed refl _ (request .request2 .given .1)) (told .before .before .refused .ensures)
+    let told : tie.After-report2 = search in
+    let refusal : tie.After-refused = search in
+    let request : tie.After-request2 = search in
+    let room : tie.Else1 = search in
+    reported-refused _ _ _ _ _ (told .report2 .ok) (room .if1 .left) _ _ (told .report2 .ensures .0) (told .report2 .ensures .1)
+    _ (request-unnamed refl _ (request .request2 .given .1)) (refusal .refused .ensures)
 
 pub build-spec : {M : Type 1} → statement M
 build-spec =

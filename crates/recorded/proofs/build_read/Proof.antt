@@ -2,7 +2,7 @@
 -- Assumes nothing.
 use Rattle.crossing.specs.Requests.{asked}
 use Rattle.recorded.proofs.Reading.{part-fits, part-is, request-is, refusal-is, closed-as, closed-unread}
-use Rattle.recorded.specs.Handed.{reported-as}
+use Rattle.recorded.specs.Laws.Handed.{reported-as}
 use borrow.Author.Needs.{needs}
 use Rattle.recorded.proofs.build_read.Statement.{statement}
 use Rattle.recorded.proofs.build_read.Tie as tie
@@ -25,9 +25,11 @@ part-build-start c = search needs
 
 part-build-end : tie.Need-part-build-end
 part-build-end c =
-    let d = c .before .before .before .before .before .before .decode in
-    let start = c .before .before .before .before .before .before .before .before .before .before .before .before .before in
-    part-fits (start .args .bytes .now) (start .args .closed .now) (d .last .1 .0) (d .result) (d .ensures) _ _ (c .before .before .read .given .1) (d .kept .1 .0)
+    let read : tie.After-read = search in
+    let decode : tie.After-decode = search in
+    let start : tie.Start = search in
+    let d = decode .decode in
+    part-fits (start .args .bytes .now) (start .args .closed .now) (d .last .1 .0) (d .result) (d .ensures) _ _ (read .read .given .1) (d .kept .1 .0)
 
 build-requires : tie.Need-build-requires
 build-requires c κs = search needs
@@ -53,10 +55,13 @@ same-length-4 c = search needs
 returns : tie.Need-returns
 unfolding asked
 returns c =
-    let built = c .before .before .before .before .before .before .build in
-    let read = c .before .before .before .before .before .before .before .before .before .before .before .before .before .read .given .1 in
-    let d = c .before .before .before .before .before .before .before .before .before .before .before .before .before .before .before .before .before .decode in
-    let start = c .before .before .before .before .before .before .before .before .before .before .before .before .before .before .before .before .before .before .before .before .before .before .before .before in
+    let build : tie.After-build = search in
+    let at-read : tie.After-read = search in
+    let decode : tie.After-decode = search in
+    let start : tie.Start = search in
+    let built = build .build in
+    let read = at-read .read .given .1 in
+    let d = decode .decode in
     reported-as _ _ (built .ok)
     (request-is (start .args .bytes .now) (start .args .closed .now) (d .last .1 .0) (d .result) (d .ensures) _ _ read)
     (closed-as _ _ _ (part-is (start .args .bytes .now) (start .args .closed .now) (d .last .1 .0) (d .result) (d .ensures) _ _ read) (built .ensures))
@@ -76,11 +81,14 @@ same-length-8 c = search needs
 returns-2 : tie.Need-returns-2
 unfolding asked
 returns-2 c =
-    let built = c .before .before .before .before .before .before .build2 in
-    let d = c .before .before .before .before .before .before .before .before .before .before .before .before .before .before .before .before .decode in
-    let start = c .before .before .before .before .before .before .before .before .before .before .before .before .before .before .before .before .before .before .before .before .before .before .before in
+    let build2 : tie.After-build2 = search in
+    let read2 : tie.After-read2 = search in
+    let decode : tie.After-decode = search in
+    let start : tie.Start = search in
+    let built = build2 .build2 in
+    let d = decode .decode in
     reported-as _ _ (built .ok)
-    (refusal-is (start .args .bytes .now) (start .args .closed .now) (d .last .1 .0) (d .result) (d .ensures) _ (c .before .before .before .before .before .before .before .before .before .before .before .before .read2 .given .1))
+    (refusal-is (start .args .bytes .now) (start .args .closed .now) (d .last .1 .0) (d .result) (d .ensures) _ (read2 .read2 .given .1))
     (closed-unread _ (built .ensures))
 
 pub build-read-spec : {M : Type 1} → statement M

@@ -1,7 +1,7 @@
 -- `recorded::count_in` meets its contract.
 -- Assumes nothing.
 use Rattle.recorded.proofs.Recording.{count-given, count-refused}
-use Rattle.crossing.specs.Calls.{handed}
+use Rattle.crossing.specs.Laws.Calls.{handed}
 use borrow.Author.Needs.{needs}
 use Rattle.recorded.proofs.count_in.Statement.{statement}
 use Rattle.recorded.proofs.count_in.Tie as tie

@@ -2,7 +2,7 @@
 -- Assumes nothing.
 use mathlib.Core.Path.{ap, _∙_}
 use lib.IntN.{natAbs}
-use Rattle.period.specs.Signed.{same32}
+use Rattle.period.specs.Laws.Signed.{same32}
 use Rattle.recorded.proofs.Recording.{second, third, fourth, fifth, record-put}
 use borrow.Author.Needs.{needs}
 use Rattle.recorded.proofs.put_record.Statement.{statement}
@@ -45,8 +45,9 @@ size-requires c κs = search needs
 
 slice-write-answer-5 : tie.Need-slice-write-answer-5
 slice-write-answer-5 c =
-    let s = c .before .before .before .before .before .before in
-    fifth (s .args .answer .now) (s .pre) (s .args .b .number) (s .args .b .count) (s .args .b .tries) (c .before .before .before .rule-number .result)
+    let rule-number : tie.After-rule-number = search in
+    let s : tie.Start = search in
+    fifth (s .args .answer .now) (s .pre) (s .args .b .number) (s .args .b .count) (s .args .b .tries) (rule-number .rule-number .result)
 
 unit-number-requires : tie.Need-unit-number-requires
 unit-number-requires c κs = search needs
@@ -59,9 +60,12 @@ same-length c = search needs
 
 returns : tie.Need-returns
 returns c =
-    record-put _ _ _ _ _ (c .before .before .before .before .before .before .before .pre)
-    (c .before .before .before .before .rule-number .ensures)
-    (c .before .size .ensures ∙ ap natAbs (same32 (c .before .before .before .before .before .before .before .args .b .tenor .length) (record { sfits = c .before .before .struct-told .given .0 .1 })))
+    let struct-told : tie.After-struct-told = search in
+    let rule-number : tie.After-rule-number = search in
+    let start : tie.Start = search in
+    record-put _ _ _ _ _ (start .pre)
+    (rule-number .rule-number .ensures)
+    (c .before .size .ensures ∙ ap natAbs (same32 (start .args .b .tenor .length) (record { sfits = struct-told .struct-told .given .0 .1 })))
     (c .unit-number .ensures)
 
 pub put-record-spec : {M : Type 1} → statement M

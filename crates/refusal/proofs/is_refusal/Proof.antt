@@ -7,7 +7,7 @@ use native.Mathlib.Omega.{arith}
 use lib.ListN.{length, drop}
 use borrow.Author.Needs.{needs}
 use Rattle.refusal.specs.Refusals.{refusals, ofNumber, inTable, letters, spaces, rowOf, rowsOf}
-use Rattle.refusal.specs.Searched.{found, passed, nowhere}
+use Rattle.refusal.specs.Laws.Searched.{found, passed, nowhere}
 use Rattle.refusal.proofs.is_refusal.Statement.{statement}
 use Rattle.refusal.proofs.is_refusal.Tie as tie
 use Rattle.refusal.proofs.is_refusal.Reads as reads

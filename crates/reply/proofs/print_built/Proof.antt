@@ -14,13 +14,18 @@ same-length : tie.Need-same-length
 same-length c = search needs
 
 returns : tie.Need-returns
-returns c = put-refusal _ _ _ (c .before .before .before .before .if1 .taken) (c .before .before .refusal .ensures)
+returns c =
+    let refusal : tie.After-refusal = search in
+    let then1 : tie.Then1 = search in
+    put-refusal _ _ _ (then1 .if1 .taken) (refusal .refusal .ensures)
 
 cast-count : tie.Need-cast-count
 cast-count c = search needs
 
 slice-aggregate-schedule : tie.Need-slice-aggregate-schedule
-slice-aggregate-schedule c = sym (length-take-le (c .before .before .before .before .before .before .args .built .count) (c .before .before .before .before .before .before .args .dates .now) (c .before .before .before .before .before .before .pre))
+slice-aggregate-schedule c =
+    let start : tie.Start = search in
+    sym (length-take-le (start .args .built .count) (start .args .dates .now) (start .pre))
 
 schedule-requires : tie.Need-schedule-requires
 schedule-requires c κs = search needs
@@ -29,7 +34,10 @@ same-length-2 : tie.Need-same-length-2
 same-length-2 c = search needs
 
 returns-2 : tie.Need-returns-2
-returns-2 c = put-schedule _ _ _ (c .before .before .before .before .before .before .if1 .left) (c .before .before .schedule .ensures)
+returns-2 c =
+    let schedule : tie.After-schedule = search in
+    let else1 : tie.Else1 = search in
+    put-schedule _ _ _ (else1 .if1 .left) (schedule .schedule .ensures)
 
 pub print-built-spec : {M : Type 1} → statement M
 print-built-spec =

@@ -9,7 +9,9 @@ build-requires : tie.Need-build-requires
 build-requires c κs = search needs
 
 print-built-requires : tie.Need-print-built-requires
-print-built-requires c κs = built-count _ (c .before .before .before .before .before .before .before .build .ensures)
+print-built-requires c κs =
+    let build : tie.After-build = search in
+    built-count _ (build .build .ensures)
 
 same-length : tie.Need-same-length
 same-length c = search needs
@@ -21,7 +23,11 @@ same-length-3 : tie.Need-same-length-3
 same-length-3 c = search needs
 
 returns : tie.Need-returns
-returns c = built-replies _ (c .before .before .before .before .before .before .before .before .before .before .before .before .before .before .before .before .before .pre .0 .0) (c .before .before .before .before .before .before .before .before .before .before .before .before .before .before .before .before .before .pre .0 .1) (c .before .before .before .before .before .before .before .before .before .before .before .before .before .before .before .before .before .pre .1) (c .before .before .before .before .before .before .before .before .before .before .build .kept .1 .1 .0) (c .before .before .before .before .before .before .before .before .before .before .build .ensures) (c .before .before .print-built .ensures)
+returns c =
+    let print-built : tie.After-print-built = search in
+    let build : tie.After-build = search in
+    let start : tie.Start = search in
+    built-replies _ (start .pre .0 .0) (start .pre .0 .1) (start .pre .1) (build .build .kept .1 .1 .0) (build .build .ensures) (print-built .print-built .ensures)
 
 pub reply-spec : {M : Type 1} → statement M
 reply-spec =

@@ -20,10 +20,17 @@ enum-known-request : tie.Need-enum-known-request
 enum-known-request c = search needs
 
 slice-reshare-prefix-reply : tie.Need-slice-reshare-prefix-reply
-slice-reshare-prefix-reply c = served-count (c .before .before .before .before .before .before .before .before .before .before .before .before .args .input .now) (c .before .before .before .before .before .decode .ensures) _ _ (c .before .request .given .1)
+slice-reshare-prefix-reply c =
+    let decode : tie.After-decode = search in
+    let start : tie.Start = search in
+    served-count (start .args .input .now) (decode .decode .ensures) _ _ (c .before .request .given .1)
 
 slice-aggregate-reply : tie.Need-slice-aggregate-reply
-slice-aggregate-reply c = sym (length-take-le _ _ (served-count (c .before .before .before .before .before .before .before .before .before .before .before .before .before .args .input .now) (c .before .before .before .before .before .before .decode .ensures) _ _ (c .before .before .request .given .1)))
+slice-aggregate-reply c =
+    let request : tie.After-request = search in
+    let decode : tie.After-decode = search in
+    let start : tie.Start = search in
+    sym (length-take-le _ _ (served-count (start .args .input .now) (decode .decode .ensures) _ _ (request .request .given .1)))
 
 reply-requires : tie.Need-reply-requires
 reply-requires c κs = search needs
@@ -35,7 +42,12 @@ same-length-2 : tie.Need-same-length-2
 same-length-2 c = search needs
 
 returns : tie.Need-returns
-returns c = turned-away (c .before .before .before .before .before .before .before .before .before .before .before .before .before .before .before .before .args .input .now) (c .before .before .before .before .before .before .before .before .before .decode .ensures) _ (c .before .before .before .before .before .before .before .before .before .before .before .before .before .before .before .before .pre .0 .0) (c .before .before .before .before .before .n .given .1) (c .before .before .refusal .ensures)
+returns c =
+    let refusal : tie.After-refusal = search in
+    let n : tie.After-n = search in
+    let decode : tie.After-decode = search in
+    let start : tie.Start = search in
+    turned-away (start .args .input .now) (decode .decode .ensures) _ (start .pre .0 .0) (n .n .given .1) (refusal .refusal .ensures)
 
 same-length-3 : tie.Need-same-length-3
 same-length-3 c = search needs
@@ -50,7 +62,12 @@ same-length-6 : tie.Need-same-length-6
 same-length-6 c = search needs
 
 returns-2 : tie.Need-returns-2
-returns-2 c = served (c .before .before .before .before .before .before .before .before .before .before .before .before .before .before .before .before .before .before .before .before .before .before .before .args .input .now) (c .before .before .before .before .before .before .before .before .before .before .before .before .before .before .before .before .decode .ensures) _ _ (c .before .before .before .before .before .before .before .before .before .before .before .before .before .before .before .before .before .before .before .before .before .before .before .pre .0 .0) (c .before .before .before .before .before .before .before .before .before .before .before .before .request .given .1) (c .before .before .before .before .before .before .reply .ensures)
+returns-2 c =
+    let reply : tie.After-reply = search in
+    let request : tie.After-request = search in
+    let decode : tie.After-decode = search in
+    let start : tie.Start = search in
+    served (start .args .input .now) (decode .decode .ensures) _ _ (start .pre .0 .0) (request .request .given .1) (reply .reply .ensures)
 
 pub serve-spec : {M : Type 1} → statement M
 serve-spec =

@@ -1,7 +1,7 @@
 -- `schedule::build` meets its contract.
 -- Assumes nothing.
 use Rattle.schedule.proofs.Building.{refusal-written, build-refused, build-admitted, build-checked, part-empty}
-use Rattle.finish.specs.Lending.{written-as}
+use Rattle.finish.specs.Laws.Lending.{written-as}
 use borrow.Author.Needs.{needs}
 use Rattle.schedule.proofs.build.Statement.{statement}
 use Rattle.schedule.proofs.build.Tie as tie
@@ -32,8 +32,11 @@ slice-aggregate-run-2 c = search needs
 
 run-requires : tie.Need-run-requires
 run-requires c κs =
-    let k = build-checked _ _ _ _ _ (c .before .before .before .before .before .before .input-refusal .ensures) (c .before .before .before .before .before .if1 .left) in
-    (k .0, (part-empty _ _ _ _ (search needs) (search needs) (c .before .before .before .before .least .ensures), c .before .before .before .before .least .ensures, k .1))
+    let least : tie.After-least = search in
+    let else1 : tie.Else1 = search in
+    let input-refusal : tie.After-input-refusal = search in
+    let k = build-checked _ _ _ _ _ (input-refusal .input-refusal .ensures) (else1 .if1 .left) in
+    (k .0, (part-empty _ _ _ (search needs) (search needs) (least .least .ensures), least .least .ensures, k .1))
 
 same-length : tie.Need-same-length
 same-length c = search needs
@@ -42,7 +45,11 @@ same-length-2 : tie.Need-same-length-2
 same-length-2 c = search needs
 
 returns-2 : tie.Need-returns-2
-returns-2 c = written-as _ _ _ _ _ _ _ _ (build-admitted _ _ _ _ _ (c .before .before .before .before .before .before .before .before .before .before .before .before .before .input-refusal .ensures) (c .before .before .before .before .before .before .before .before .before .before .before .before .if1 .left)) (c .before .before .before .before .before .before .run .ensures)
+returns-2 c =
+    let run : tie.After-run = search in
+    let else1 : tie.Else1 = search in
+    let input-refusal : tie.After-input-refusal = search in
+    written-as _ _ _ _ _ _ _ _ (build-admitted _ _ _ _ _ (input-refusal .input-refusal .ensures) (else1 .if1 .left)) (run .run .ensures)
 
 pub build-spec : {M : Type 1} → statement M
 build-spec =

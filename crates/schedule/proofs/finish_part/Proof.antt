@@ -2,7 +2,7 @@
 -- Assumes nothing.
 use mathlib.Core.Path.{refl}
 use Rattle.schedule.proofs.Building.{part-is, finish-is, lent-part}
-use Rattle.finish.specs.Lending.{written-as}
+use Rattle.finish.specs.Laws.Lending.{written-as}
 use borrow.Author.Needs.{needs}
 use Rattle.schedule.proofs.finish_part.Statement.{statement}
 use Rattle.schedule.proofs.finish_part.Tie as tie
@@ -57,9 +57,11 @@ same-length-4 c = search needs
 
 returns : tie.Need-returns
 returns c =
-    let p = c .before .before .before .before .before .before .before .before .before .before .before .before .before .before .before .before .before .before .pre in
-    let a = c .before .before .before .before .before .before .before .before .before .before .before .before .before .before .before .before .before .before .args in
-    written-as _ _ _ _ _ _ _ _ (finish-is _ _ _ _ _ _ _ _ (a .dates .now) (a .flags .now) (part-is _ _ _ _ (p .0 .1) refl (p .1 .0 .1)) (part-is _ _ _ _ (p .0 .2) refl (p .1 .0 .2)) (lent-part _ _ _ _ _ _ _ _ _ (p .0 .1) (p .0 .2) refl refl (p .1 .0 .0) (p .1 .0 .1) (p .1 .0 .2) (p .1 .1 .0) (p .1 .1 .1))) (c .before .before .before .before .before .before .before .before .complete .ensures (p .0 .0))
+    let complete : tie.After-complete = search in
+    let start : tie.Start = search in
+    let p = start .pre in
+    let a = start .args in
+    written-as _ _ _ _ _ _ _ _ (finish-is _ _ _ _ _ _ _ _ (a .dates .now) (a .flags .now) (part-is _ _ _ _ (p .0 .1) refl (p .1 .0 .dates-end)) (part-is _ _ _ _ (p .0 .2) refl (p .1 .0 .flags-end)) (lent-part _ _ _ _ (a .piece) _ _ (p .0 .1) (p .0 .2) refl refl (p .1 .0) (p .1 .1))) (complete .complete .ensures (p .0 .0))
 
 pub finish-part-spec : {M : Type 1} → statement M
 finish-part-spec =

@@ -1,8 +1,8 @@
 -- `schedule::run` meets its contract.
 -- Assumes nothing.
 use native.Mathlib.Omega.{arith}
-use Rattle.schedule.proofs.Building.{refusal-written, run-stop, run-on, run-lies, room-enough}
-use Rattle.finish.specs.Lending.{written-as}
+use Rattle.schedule.proofs.Building.{refusal-written, run-stop, run-on, run-lies}
+use Rattle.finish.specs.Laws.Lending.{written-as}
 use borrow.Author.Needs.{needs}
 use Rattle.schedule.proofs.run.Statement.{statement}
 use Rattle.schedule.proofs.run.Tie as tie
@@ -26,9 +26,11 @@ enum-known-made-2 c = search needs
 
 finish-part-requires : tie.Need-finish-part-requires
 finish-part-requires c κs =
-    let p = c .before .before .before .before .before .before .before .before .before .before .before .before .before .before .before .before .before .before .before .pre in
-    let l = run-lies _ _ _ (c .before .before .before .before .before .before .before .before .before .before .before .generate .ensures) (p .1 .1) _ _ _ _ _ (c .before .before .before .before .before .made2 .given .1) in
-    ((p .0 .calendar, omega (arith, p .1 .0 .work-size), omega (arith, p .1 .0 .marks-size)), ((l .0, l .2, l .3), (room-enough _ _ _ (l .1) (p .1 .1), p .1 .2)))
+    let ready : tie.After-made2 = search in
+    let made : tie.After-generate = search in
+    let start : tie.Start = search in
+    let p = start .pre in
+    ((p .0 .calendar, omega (arith, p .1 .0 .work-size), omega (arith, p .1 .0 .marks-size)), (run-lies _ _ _ _ _ (made .generate .ensures) (p .1 .1) _ (ready .made2 .given .1), p .1 .2))
 
 same-length : tie.Need-same-length
 same-length c = search needs
@@ -37,7 +39,12 @@ same-length-2 : tie.Need-same-length-2
 same-length-2 c = search needs
 
 returns : tie.Need-returns
-returns c = refusal-written _ _ _ _ _ _ (c .refused .ensures) (run-stop _ _ _ (c .before .before .before .before .before .before .before .before .generate .ensures) (c .before .before .before .before .before .before .before .before .before .before .before .before .before .before .before .before .pre .1 .1) _ (c .before .before .made .given .1))
+returns c =
+    let refusal : tie.After-refused = search in
+    let stop : tie.After-made = search in
+    let made : tie.After-generate = search in
+    let start : tie.Start = search in
+    refusal-written _ _ _ _ _ _ (refusal .refused .ensures) (run-stop _ _ _ _ _ (made .generate .ensures) (start .pre .1 .1) _ (stop .made .given .1))
 
 same-length-3 : tie.Need-same-length-3
 same-length-3 c = search needs
@@ -52,7 +59,12 @@ same-length-6 : tie.Need-same-length-6
 same-length-6 c = search needs
 
 returns-2 : tie.Need-returns-2
-returns-2 c = written-as _ _ _ _ _ _ _ _ (run-on _ _ _ (c .before .before .before .before .before .before .before .before .before .before .before .before .before .before .before .before .before .before .before .before .generate .ensures) (c .before .before .before .before .before .before .before .before .before .before .before .before .before .before .before .before .before .before .before .before .before .before .before .before .before .before .before .before .pre .1 .1) _ _ _ _ _ (c .before .before .before .before .before .before .before .before .before .before .before .before .before .before .made2 .given .1)) (c .before .before .before .before .before .before .before .before .finish-part .ensures)
+returns-2 c =
+    let finish : tie.After-finish-part = search in
+    let ready : tie.After-made2 = search in
+    let made : tie.After-generate = search in
+    let start : tie.Start = search in
+    written-as _ _ _ _ _ _ _ _ (run-on _ _ _ _ _ (made .generate .ensures) (start .pre .1 .1) _ (ready .made2 .given .1)) (finish .finish-part .ensures)
 
 pub run-spec : {M : Type 1} → statement M
 run-spec =

@@ -1,8 +1,9 @@
 -- `backwards::ending::backward_end` meets its contract.
 -- Assumes nothing.
 use Rattle.steps.specs.Generate.{backwardEnd}
-use Rattle.working.specs.After.{added-ends}
-use Rattle.backwards.proofs.Backing.{back-made}
+use Rattle.working.specs.Adding.{adds, added-on}
+use Rattle.working.specs.Making.{generated-is-refused, back-made}
+use Rattle.working.specs.Part.{begun-placed}
 use borrow.Author.Needs.{needs}
 use Rattle.backwards.proofs.ending.backward_end.Statement.{statement}
 use Rattle.backwards.proofs.ending.backward_end.Tie as tie
@@ -14,14 +15,8 @@ use Rattle.backwards.proofs.ending.far_place.Reads as far-place-reads
 end-requires : tie.Need-end-requires
 end-requires c κs = search needs
 
-enum-known-last : tie.Need-enum-known-last
-enum-known-last c = search needs
-
-enum-known-last-2 : tie.Need-enum-known-last-2
-enum-known-last-2 c = search needs
-
-far-place-requires : tie.Need-far-place-requires
-far-place-requires c κs = search needs
+enum-known-k : tie.Need-enum-known-k
+enum-known-k c = search needs
 
 same-length : tie.Need-same-length
 same-length c = search needs
@@ -31,7 +26,16 @@ same-length-2 c = search needs
 
 returns : tie.Need-returns
 unfolding backwardEnd
-returns c = λ b k. added-ends (c .before .before .before .before .before .before .before .end .ensures b k) _ _ (c .before .last .given .1)
+returns c =
+    let stop : tie.After-k = search in
+    let end : tie.After-end = search in
+    record { run = λ a. search (adds, generated-is-refused, end .end .ensures, stop .k .given .1) }
+
+enum-known-t : tie.Need-enum-known-t
+enum-known-t c = search needs
+
+far-place-requires : tie.Need-far-place-requires
+far-place-requires c κs = search needs
 
 same-length-3 : tie.Need-same-length-3
 same-length-3 c = search needs
@@ -40,19 +44,24 @@ same-length-4 : tie.Need-same-length-4
 same-length-4 c = search needs
 
 returns-2 : tie.Need-returns-2
-returns-2 c = λ b k. back-made _ _ _ _ _ (c .before .before .before .before .before .before .before .before .end .ensures b k) _ _ (c .before .before .last2 .given .1) _ (c .far-place .ensures)
+unfolding backwardEnd
+returns-2 c =
+    let from : tie.After-far-place = search in
+    let tip : tie.After-t = search in
+    let end : tie.After-end = search in
+    record { run = λ a. added-on _ _ (end .end .ensures) _ (tip .t .given .1) a (λ s. back-made _ _ _ (begun-placed (s .begun)) (from .far-place .ensures)) }
 
 pub backward-end-spec : {M : Type 1} → statement M
 backward-end-spec =
     tie.close
     (tie.spec
     end-requires
-    enum-known-last
-    enum-known-last-2
-    far-place-requires
+    enum-known-k
     same-length
     same-length-2
     returns
+    enum-known-t
+    far-place-requires
     same-length-3
     same-length-4
     returns-2)

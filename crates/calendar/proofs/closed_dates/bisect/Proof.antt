@@ -2,7 +2,7 @@
 -- Assumes nothing.
 use Prim.Native.Nat.{_-_}
 use native.Mathlib.Omega.{arith}
-use Rattle.calendar.specs.Places.{Bracket}
+use Rattle.calendar.specs.Inner.Places.{Bracket}
 use Rattle.calendar.proofs.Places.{bracket-up, bracket-down, places}
 use Rattle.calendar.proofs.closed_dates.bisect.Statement.{statement}
 use Rattle.calendar.proofs.closed_dates.bisect.Tie as tie

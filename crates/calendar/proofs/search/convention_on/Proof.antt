@@ -1,6 +1,6 @@
 -- `calendar::search::convention_on` meets its contract.
 -- Assumes nothing.
-use Rattle.calendar.specs.Always.{on-open, on-listed, on-masked}
+use Rattle.calendar.specs.Inner.Always.{on-open, on-listed, on-masked}
 use borrow.Author.Needs.{needs}
 use Rattle.calendar.proofs.search.convention_on.Statement.{statement}
 use Rattle.calendar.proofs.search.convention_on.Tie as tie

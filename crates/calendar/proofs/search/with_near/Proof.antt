@@ -1,9 +1,9 @@
 -- `calendar::search::with_near` meets its contract.
 -- Assumes nothing.
 use mathlib.Core.Path.{refl, sym}
-use Rattle.date.specs.Made.{given-day, refused-day}
+use Rattle.date.specs.Laws.Made.{given-day, refused-day}
 use Rattle.calendar.specs.Calendar.{placed}
-use Rattle.calendar.specs.Near.{Known}
+use Rattle.calendar.specs.Inner.Near.{Known}
 use borrow.Author.Needs.{needs}
 use Rattle.calendar.proofs.search.with_near.Statement.{statement}
 use Rattle.calendar.proofs.search.with_near.Tie as tie

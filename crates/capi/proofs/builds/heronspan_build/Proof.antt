@@ -1,8 +1,8 @@
 -- `capi::builds::heronspan_build` meets its contract.
 -- Assumes nothing.
 use Rattle.crossing.specs.Requests.{requestOf}
-use Rattle.crossing.specs.Calls.{same-count}
-use Rattle.recorded.specs.Handed.{reported-as}
+use Rattle.crossing.specs.Laws.Calls.{same-count}
+use Rattle.recorded.specs.Laws.Handed.{reported-as}
 use borrow.Author.Needs.{needs}
 use Rattle.capi.proofs.builds.heronspan_build.Statement.{statement}
 use Rattle.capi.proofs.builds.heronspan_build.Tie as tie
@@ -28,9 +28,9 @@ same-length-3 c = search needs
 
 returns : tie.Need-returns
 returns c =
-    let built = c .before .before .before .before .before .before in
-    let request = built .before .before .before .before in
-    let start = request .before .before .before .before .before in
+    let built : tie.After-build = search in
+    let request : tie.After-request-of = search in
+    let start : tie.Start = search in
     reported-as _ _ (built .build .ok)
     (same-count (λ z. requestOf (start .args .effective) (start .args .termination) z (start .args .unit) (start .args .rule) (start .args .convention) (start .args .terminal) (start .args .monthend) (start .args .first) (start .args .penultimate) (start .args .mask)) _ _ (start .fits .tenor) (request .request-of .ensures))
     (built .build .ensures)

@@ -2,7 +2,7 @@
 -- Assumes nothing.
 use Rattle.crossing.specs.Answers.{marked}
 use Rattle.crossing.specs.Requests.{requestOf}
-use Rattle.crossing.specs.Calls.{same-count, told, told-refused, named, unnamed, request-named, request-unnamed}
+use Rattle.crossing.specs.Laws.Calls.{same-count, told, told-refused, named, unnamed, request-named, request-unnamed}
 use borrow.Author.Needs.{needs}
 use Rattle.capi.proofs.builds.heronspan_coming.Statement.{statement}
 use Rattle.capi.proofs.builds.heronspan_coming.Tie as tie
@@ -33,17 +33,19 @@ minus-requires c κs = search needs
 
 returns : tie.Need-returns
 returns c =
-    let request = c .before .before .before .before .before in
+    let at-request : tie.After-request = search in
+    let request : tie.After-request-of = search in
     let start = request .before .before in
     told marked (c .of-coming .ok) _ _ (c .of-coming .ensures)
-    (named _ _ _ _ (request-named (same-count (λ z. requestOf (start .args .effective) (start .args .termination) z (start .args .unit) (start .args .rule) (start .args .convention) (start .args .terminal) (start .args .monthend) (start .args .first) (start .args .penultimate) (start .args .mask)) _ _ (start .fits .tenor) (request .request-of .ensures)) _ (c .before .before .before .request .given .1)) (c .before .after .ensures))
+    (named _ _ _ _ (request-named (same-count (λ z. requestOf (start .args .effective) (start .args .termination) z (start .args .unit) (start .args .rule) (start .args .convention) (start .args .terminal) (start .args .monthend) (start .args .first) (start .args .penultimate) (start .args .mask)) _ _ (start .fits .tenor) (request .request-of .ensures)) _ (at-request .request .given .1)) (c .before .after .ensures))
 
 returns-2 : tie.Need-returns-2
 returns-2 c =
-    let request = c .before .before .before .before in
+    let request2 : tie.After-request2 = search in
+    let request : tie.After-request-of = search in
     let start = request .before .before in
     told-refused marked (c .minus .ok) _ _ (c .minus .ensures)
-    (unnamed _ _ _ (request-unnamed (same-count (λ z. requestOf (start .args .effective) (start .args .termination) z (start .args .unit) (start .args .rule) (start .args .convention) (start .args .terminal) (start .args .monthend) (start .args .first) (start .args .penultimate) (start .args .mask)) _ _ (start .fits .tenor) (request .request-of .ensures)) _ (c .before .before .request2 .given .1)))
+    (unnamed _ _ _ (request-unnamed (same-count (λ z. requestOf (start .args .effective) (start .args .termination) z (start .args .unit) (start .args .rule) (start .args .convention) (start .args .terminal) (start .args .monthend) (start .args .first) (start .args .penultimate) (start .args .mask)) _ _ (start .fits .tenor) (request .request-of .ensures)) _ (request2 .request2 .given .1)))
 
 pub heronspan-coming-spec : {M : Type 1} → statement M
 heronspan-coming-spec =

@@ -1,7 +1,7 @@
 -- `capi::calendars::heronspan_adjust` meets its contract.
 -- Assumes nothing.
 use Rattle.crossing.specs.Answers.{itself}
-use Rattle.crossing.specs.Calls.{told, told-refused, named, unnamed, convention-named, convention-unnamed}
+use Rattle.crossing.specs.Laws.Calls.{told, told-refused, named, unnamed, convention-named, convention-unnamed}
 use borrow.Author.Needs.{needs}
 use Rattle.capi.proofs.calendars.heronspan_adjust.Statement.{statement}
 use Rattle.capi.proofs.calendars.heronspan_adjust.Tie as tie
@@ -32,12 +32,16 @@ minus-requires c κs = search needs
 
 returns : tie.Need-returns
 returns c =
+    let at-named : tie.After-named = search in
+    let convention-of : tie.After-convention-of = search in
     told itself (c .of-dated .ok) _ _ (c .of-dated .ensures)
-    (named _ _ _ _ (convention-named (c .before .before .before .before .before .convention-of .ensures) _ (c .before .before .before .named .given .1)) (c .before .adjust .ensures))
+    (named _ _ _ _ (convention-named (convention-of .convention-of .ensures) _ (at-named .named .given .1)) (c .before .adjust .ensures))
 
 returns-2 : tie.Need-returns-2
 returns-2 c =
-    told-refused itself (c .minus .ok) _ _ (c .minus .ensures) (unnamed _ _ _ (convention-unnamed (c .before .before .before .before .convention-of .ensures) _ (c .before .before .named2 .given .1)))
+    let named2 : tie.After-named2 = search in
+    let convention-of : tie.After-convention-of = search in
+    told-refused itself (c .minus .ok) _ _ (c .minus .ensures) (unnamed _ _ _ (convention-unnamed (convention-of .convention-of .ensures) _ (named2 .named2 .given .1)))
 
 pub heronspan-adjust-spec : {M : Type 1} → statement M
 heronspan-adjust-spec =

@@ -1,7 +1,7 @@
 -- `capi::calendars::heronspan_calendar_check` meets its contract.
 -- Assumes nothing.
 use Rattle.crossing.specs.Answers.{done}
-use Rattle.crossing.specs.Calls.{told}
+use Rattle.crossing.specs.Laws.Calls.{told}
 use borrow.Author.Needs.{needs}
 use Rattle.capi.proofs.calendars.heronspan_calendar_check.Statement.{statement}
 use Rattle.capi.proofs.calendars.heronspan_calendar_check.Tie as tie

@@ -1,7 +1,7 @@
 -- `capi::calendars::heronspan_is_open` meets its contract.
 -- Assumes nothing.
 use Rattle.crossing.specs.Answers.{yes}
-use Rattle.crossing.specs.Calls.{told}
+use Rattle.crossing.specs.Laws.Calls.{told}
 use borrow.Author.Needs.{needs}
 use Rattle.capi.proofs.calendars.heronspan_is_open.Statement.{statement}
 use Rattle.capi.proofs.calendars.heronspan_is_open.Tie as tie

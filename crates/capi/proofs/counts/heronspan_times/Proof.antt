@@ -4,7 +4,7 @@ use Rattle.refusal.specs.Answer.{then}
 use Rattle.period.specs.Period.{timesOf}
 use Rattle.crossing.specs.Answers.{lengthIn}
 use Rattle.crossing.specs.Numbers.{unitOf}
-use Rattle.crossing.specs.Calls.{same-two}
+use Rattle.crossing.specs.Laws.Calls.{same-two}
 use Rattle.capi.proofs.Counting.{placed-as}
 use borrow.Author.Needs.{needs}
 use Rattle.capi.proofs.counts.heronspan_times.Statement.{statement}
@@ -25,9 +25,10 @@ same-length c = search needs
 
 returns : tie.Need-returns
 returns c =
-    let start = c .before .before .before .before in
+    let times : tie.After-times = search in
+    let start : tie.Start = search in
     placed-as _ _ (c .before .put-counted .ok)
-    (same-two (λ y z. then (unitOf (start .args .unit)) (λ u. lengthIn (timesOf y u z))) _ _ _ (start .fits .tenor) (start .fits .count) (c .before .before .before .times .ensures))
+    (same-two (λ y z. then (unitOf (start .args .unit)) (λ u. lengthIn (timesOf y u z))) _ _ _ (start .fits .tenor) (start .fits .count) (times .times .ensures))
     (c .before .put-counted .ensures)
 
 pub heronspan-times-spec : {M : Type 1} → statement M

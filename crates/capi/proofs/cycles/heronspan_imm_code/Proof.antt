@@ -1,7 +1,7 @@
 -- `capi::cycles::heronspan_imm_code` meets its contract.
 -- Assumes nothing.
 use Rattle.crossing.specs.Answers.{twoBytes}
-use Rattle.crossing.specs.Calls.{told}
+use Rattle.crossing.specs.Laws.Calls.{told}
 use borrow.Author.Needs.{needs}
 use Rattle.capi.proofs.cycles.heronspan_imm_code.Statement.{statement}
 use Rattle.capi.proofs.cycles.heronspan_imm_code.Tie as tie

@@ -1,7 +1,7 @@
 -- `capi::cycles::heronspan_imm_date` meets its contract.
 -- Assumes nothing.
 use Rattle.crossing.specs.Answers.{itself}
-use Rattle.crossing.specs.Calls.{told}
+use Rattle.crossing.specs.Laws.Calls.{told}
 use borrow.Author.Needs.{needs}
 use Rattle.capi.proofs.cycles.heronspan_imm_date.Statement.{statement}
 use Rattle.capi.proofs.cycles.heronspan_imm_date.Tie as tie

@@ -3,7 +3,7 @@
 use mathlib.Core.Path.{ap}
 use Rattle.refusal.specs.Answer.{given}
 use Rattle.crossing.specs.Answers.{yes}
-use Rattle.crossing.specs.Calls.{told-given, told-refused, named, unnamed, flag-named, flag-unnamed}
+use Rattle.crossing.specs.Laws.Calls.{told-given, told-refused, named, unnamed, flag-named, flag-unnamed}
 use borrow.Author.Needs.{needs}
 use Rattle.capi.proofs.cycles.heronspan_is_imm_code.Statement.{statement}
 use Rattle.capi.proofs.cycles.heronspan_is_imm_code.Tie as tie
@@ -34,12 +34,16 @@ minus-requires c κs = search needs
 
 returns : tie.Need-returns
 returns c =
+    let at-named : tie.After-named = search in
+    let flag-of : tie.After-flag-of = search in
     told-given yes (c .truth .ok) _ _ (c .truth .ensures)
-    (named _ _ _ _ (flag-named (c .before .before .before .before .before .flag-of .ensures) _ (c .before .before .before .named .given .1)) (ap given (c .before .is-imm-code .ensures)))
+    (named _ _ _ _ (flag-named (flag-of .flag-of .ensures) _ (at-named .named .given .1)) (ap given (c .before .is-imm-code .ensures)))
 
 returns-2 : tie.Need-returns-2
 returns-2 c =
-    told-refused yes (c .minus .ok) _ _ (c .minus .ensures) (unnamed _ _ _ (flag-unnamed (c .before .before .before .before .flag-of .ensures) _ (c .before .before .named2 .given .1)))
+    let named2 : tie.After-named2 = search in
+    let flag-of : tie.After-flag-of = search in
+    told-refused yes (c .minus .ok) _ _ (c .minus .ensures) (unnamed _ _ _ (flag-unnamed (flag-of .flag-of .ensures) _ (named2 .named2 .given .1)))
 
 pub heronspan-is-imm-code-spec : {M : Type 1} → statement M
 heronspan-is-imm-code-spec =

@@ -1,6 +1,6 @@
 -- `capi::dates::heronspan_advance` meets its contract.
 -- Assumes nothing.
-use Rattle.crossing.specs.Calls.{told, told-refused, named, unnamed, unit-named, unit-unnamed, same-count}
+use Rattle.crossing.specs.Laws.Calls.{told, told-refused, named, unnamed, unit-named, unit-unnamed, same-count}
 use Rattle.date.specs.Date.{advanceOf}
 use Rattle.crossing.specs.Answers.{itself}
 use borrow.Author.Needs.{needs}
@@ -33,13 +33,18 @@ minus-requires c κs = search needs
 
 returns : tie.Need-returns
 returns c =
-    let at = c .before .before .before .before .before .before in
+    let at-named : tie.After-named = search in
+    let unit-of : tie.After-unit-of = search in
+    let at : tie.Start = search in
     told itself (c .of-dated .ok) _ _ (c .of-dated .ensures)
-    (named _ _ _ _ (unit-named (c .before .before .before .before .before .unit-of .ensures) _ (c .before .before .before .named .given .1))
-    (same-count (λ z. advanceOf (at .args .day) z (c .before .before .before .named .given .0 .0)) _ _ (at .fits .count) (c .before .advance .ensures)))
+    (named _ _ _ _ (unit-named (unit-of .unit-of .ensures) _ (at-named .named .given .1))
+    (same-count (λ z. advanceOf (at .args .day) z (at-named .named .given .0 .0)) _ _ (at .fits .count) (c .before .advance .ensures)))
 
 returns-2 : tie.Need-returns-2
-returns-2 c = told-refused itself (c .minus .ok) _ _ (c .minus .ensures) (unnamed _ _ _ (unit-unnamed (c .before .before .before .before .unit-of .ensures) _ (c .before .before .named2 .given .1)))
+returns-2 c =
+    let named2 : tie.After-named2 = search in
+    let unit-of : tie.After-unit-of = search in
+    told-refused itself (c .minus .ok) _ _ (c .minus .ensures) (unnamed _ _ _ (unit-unnamed (unit-of .unit-of .ensures) _ (named2 .named2 .given .1)))
 
 pub heronspan-advance-spec : {M : Type 1} → statement M
 heronspan-advance-spec =

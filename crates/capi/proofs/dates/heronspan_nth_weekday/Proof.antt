@@ -1,6 +1,6 @@
 -- `capi::dates::heronspan_nth_weekday` meets its contract.
 -- Assumes nothing.
-use Rattle.crossing.specs.Calls.{told}
+use Rattle.crossing.specs.Laws.Calls.{told}
 use Rattle.crossing.specs.Answers.{itself}
 use borrow.Author.Needs.{needs}
 use Rattle.capi.proofs.dates.heronspan_nth_weekday.Statement.{statement}

@@ -1,6 +1,6 @@
 -- `capi::refusals::heronspan_refusal_text` meets its contract.
 -- Assumes nothing.
-use Rattle.crossing.specs.Calls.{spelled-as, same-name}
+use Rattle.crossing.specs.Laws.Calls.{spelled-as, same-name}
 use borrow.Author.Needs.{needs}
 use Rattle.capi.proofs.refusals.heronspan_refusal_text.Statement.{statement}
 use Rattle.capi.proofs.refusals.heronspan_refusal_text.Tie as tie
@@ -16,8 +16,9 @@ same-length c = search needs
 
 returns : tie.Need-returns
 returns c =
-    let put = c .before .before .put-refusal in
-    let start = c .before .before .before .before .before in
+    let put-refusal : tie.After-put-refusal = search in
+    let start : tie.Start = search in
+    let put = put-refusal .put-refusal in
     spelled-as _ _ (put .ok) (same-name (start .args .answer) (start .fits .answer)) (put .ensures)
 
 pub heronspan-refusal-text-spec : {M : Type 1} → statement M

@@ -1,6 +1,6 @@
 -- `checks::tenors::is_negative` meets its contract.
 -- Assumes nothing.
-use Rattle.period.specs.Signed.{same32, negative-test}
+use Rattle.period.specs.Laws.Signed.{same32, negative-test}
 use Rattle.checks.proofs.tenors.is_negative.Statement.{statement}
 use Rattle.checks.proofs.tenors.is_negative.Tie as tie
 use Rattle.checks.proofs.tenors.is_negative.Reads as reads

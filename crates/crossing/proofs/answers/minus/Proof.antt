@@ -1,6 +1,6 @@
 -- `crossing::answers::minus` meets its contract.
 -- Assumes nothing.
-use Rattle.crossing.specs.Calls.{minus-fits, minus-is}
+use Rattle.crossing.specs.Laws.Calls.{minus-fits, minus-is}
 use borrow.Author.Needs.{needs}
 use Rattle.crossing.proofs.answers.minus.Statement.{statement}
 use Rattle.crossing.proofs.answers.minus.Tie as tie

@@ -2,7 +2,7 @@
 -- Assumes nothing.
 use Rattle.imm.specs.Imm.{coded}
 use Rattle.crossing.specs.Answers.{oneNumber, twoBytes}
-use Rattle.crossing.specs.Calls.{handed}
+use Rattle.crossing.specs.Laws.Calls.{handed}
 use borrow.Author.Needs.{needs}
 use Rattle.crossing.proofs.answers.of_coded.Statement.{statement}
 use Rattle.crossing.proofs.answers.of_coded.Tie as tie

@@ -2,7 +2,7 @@
 -- Assumes nothing.
 use Rattle.coming.specs.Coming.{meant}
 use Rattle.crossing.specs.Answers.{oneNumber, marked}
-use Rattle.crossing.specs.Calls.{handed}
+use Rattle.crossing.specs.Laws.Calls.{handed}
 use Rattle.crossing.proofs.Marks.{ending-marked}
 use borrow.Author.Needs.{needs}
 use Rattle.crossing.proofs.answers.of_coming.Statement.{statement}

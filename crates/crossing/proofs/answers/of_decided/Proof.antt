@@ -2,7 +2,7 @@
 -- Assumes nothing.
 use Rattle.calendar.specs.Calendar.{decided}
 use Rattle.crossing.specs.Answers.{oneNumber, yes}
-use Rattle.crossing.specs.Calls.{handed}
+use Rattle.crossing.specs.Laws.Calls.{handed}
 use borrow.Author.Needs.{needs}
 use Rattle.crossing.proofs.answers.of_decided.Statement.{statement}
 use Rattle.crossing.proofs.answers.of_decided.Tie as tie

@@ -1,7 +1,7 @@
 -- `crossing::answers::truth` meets its contract.
 -- Assumes nothing.
 use Rattle.crossing.specs.Answers.{yes}
-use Rattle.crossing.specs.Calls.{handed}
+use Rattle.crossing.specs.Laws.Calls.{handed}
 use borrow.Author.Needs.{needs}
 use Rattle.crossing.proofs.answers.truth.Statement.{statement}
 use Rattle.crossing.proofs.answers.truth.Tie as tie

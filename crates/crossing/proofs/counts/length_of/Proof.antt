@@ -1,6 +1,6 @@
 -- `crossing::counts::length_of` meets its contract.
 -- Assumes nothing.
-use Rattle.period.specs.Signed.{same32}
+use Rattle.period.specs.Laws.Signed.{same32}
 use Rattle.period.specs.Period.{product}
 use Rattle.date.specs.Date.{counted}
 use Rattle.refusal.specs.Answer.{then}

@@ -39,12 +39,16 @@ same-length c = search needs
 returns-2 : tie.Need-returns-2
 unfolding counted
 returns-2 c =
-    place-given _ _ (c .value .ok) (c .before .before .before .before .if1 .left) _ (record { sfits = c .before .known-told .given .0 .1 }) (ap counted (c .before .before .d .given .1)) (c .value .ensures)
+    let d : tie.After-d = search in
+    let else1 : tie.Else1 = search in
+    place-given _ _ (c .value .ok) (else1 .if1 .left) _ (record { sfits = c .before .known-told .given .0 .1 }) (ap counted (d .d .given .1)) (c .value .ensures)
 
 returns-3 : tie.Need-returns-3
 unfolding counted
 returns-3 c =
-    place-refused _ _ (c .minus2 .ok) (c .before .before .before .before .if1 .left) _ (ap counted (c .before .before .d2 .given .1)) (c .minus2 .ensures)
+    let d2 : tie.After-d2 = search in
+    let else1 : tie.Else1 = search in
+    place-refused _ _ (c .minus2 .ok) (else1 .if1 .left) _ (ap counted (d2 .d2 .given .1)) (c .minus2 .ensures)
 
 pub put-counted-spec : {M : Type 1} → statement M
 put-counted-spec =

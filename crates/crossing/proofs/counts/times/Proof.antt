@@ -4,7 +4,7 @@ use mathlib.Core.Path.{ap, _∙_}
 use Rattle.period.specs.Period.{timesOf}
 use Rattle.date.specs.Date.{counted}
 use Rattle.crossing.specs.Answers.{lengthIn}
-use Rattle.crossing.specs.Calls.{named, unnamed, unit-named, unit-unnamed, same-two}
+use Rattle.crossing.specs.Laws.Calls.{named, unnamed, unit-named, unit-unnamed, same-two}
 use borrow.Author.Needs.{needs}
 use Rattle.crossing.proofs.counts.times.Statement.{statement}
 use Rattle.crossing.proofs.counts.times.Tie as tie
@@ -31,9 +31,11 @@ enum-known-named-2 c = search needs
 
 returns : tie.Need-returns
 returns c =
-    let start = c .before .before .before .before .before .before in
-    named _ _ _ _ (unit-named (c .before .before .before .before .before .unit-of .ensures) _ (c .before .before .before .named .given .1))
-    (same-two (λ y z. lengthIn (timesOf y (c .before .before .before .named .given .0 .0) z)) _ _ _ (start .fits .tenor) (start .fits .count)
+    let at-named : tie.After-named = search in
+    let unit-of : tie.After-unit-of = search in
+    let start : tie.Start = search in
+    named _ _ _ _ (unit-named (unit-of .unit-of .ensures) _ (at-named .named .given .1))
+    (same-two (λ y z. lengthIn (timesOf y (at-named .named .given .0 .0) z)) _ _ _ (start .fits .tenor) (start .fits .count)
     (c .length-of .ensures ∙ ap lengthIn (c .before .times .ensures)))
 
 returns-2 : tie.Need-returns-2

@@ -26,8 +26,10 @@ same-length c = search needs
 
 returns-2 : tie.Need-returns-2
 returns-2 c =
-    let start = c .before .before .before .before .before .before .before in
-    spelled-put _ _ _ (start .pre) (c .before .before .before .before .if1 .left) (c .before .before .put-letters .ensures)
+    let put-letters : tie.After-put-letters = search in
+    let else1 : tie.Else1 = search in
+    let start : tie.Start = search in
+    spelled-put _ _ _ (start .pre) (else1 .if1 .left) (put-letters .put-letters .ensures)
 
 pub put-name-spec : {M : Type 1} → statement M
 put-name-spec =

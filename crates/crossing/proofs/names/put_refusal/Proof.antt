@@ -3,7 +3,7 @@
 use mathlib.Core.Path.{sym, _∙_}
 use lib.Seq.{length-take-le}
 use borrow.Author.Needs.{needs}
-use Rattle.crossing.specs.Calls.{spelled-as, same-name}
+use Rattle.crossing.specs.Laws.Calls.{spelled-as, same-name}
 use Rattle.crossing.proofs.names.put_refusal.Statement.{statement}
 use Rattle.crossing.proofs.names.put_refusal.Tie as tie
 use Rattle.crossing.proofs.names.put_refusal.Reads as reads
@@ -30,9 +30,11 @@ same-length c = search needs
 
 returns : tie.Need-returns
 returns c =
-    let put = c .before .before .put-name in
-    let start = c .before .before .before .before .before .before .before .before in
-    spelled-as _ _ (put .ok) (c .before .before .before .before .before .before .row-of .ensures .name ∙ same-name (start .args .answer) (start .fits .answer)) (put .ensures)
+    let put-name : tie.After-put-name = search in
+    let row-of : tie.After-row-of = search in
+    let start : tie.Start = search in
+    let put = put-name .put-name in
+    spelled-as _ _ (put .ok) (row-of .row-of .ensures .name ∙ same-name (start .args .answer) (start .fits .answer)) (put .ensures)
 
 pub put-refusal-spec : {M : Type 1} → statement M
 put-refusal-spec =

@@ -37,8 +37,9 @@ minus-requires c κs = search needs
 returns : tie.Need-returns Inv-loop μ-loop
 unfolding refusals rowsOf rowOf letters spaces
 returns c =
-    let at = c .before .before .before .before in
-    row-hit _ (at .loop .k) (c .before .before .before .loop-test .taken) _ _ (at .before .fits .answer) (c .before .minus .ok) (c .before .minus .ensures) (at .loop .inv .1) (c .if1 .taken)
+    let loop : tie.In-loop Inv-loop μ-loop = search in
+    let at : tie.At-loop Inv-loop μ-loop = search in
+    row-hit _ (at .loop .k) (loop .loop-test .taken) _ _ (at .before .fits .answer) (c .before .minus .ok) (c .before .minus .ensures) (at .loop .inv .1) (c .if1 .taken)
 
 add-k : tie.Need-add-k Inv-loop μ-loop
 add-k c = search needs
@@ -50,8 +51,9 @@ loop-less c = omega arith
 loop-again : tie.Need-loop-again Inv-loop μ-loop
 unfolding refusals rowsOf rowOf letters spaces
 loop-again c =
-    let at = c .before .before .before .before in
-    (omega arith, row-missed _ (at .loop .k) (c .before .before .before .loop-test .taken) _ _ (at .before .fits .answer) (c .before .minus .ok) (c .before .minus .ensures) (at .loop .inv .1) (c .if1 .left))
+    let loop : tie.In-loop Inv-loop μ-loop = search in
+    let at : tie.At-loop Inv-loop μ-loop = search in
+    (omega arith, row-missed _ (at .loop .k) (loop .loop-test .taken) _ _ (at .before .fits .answer) (c .before .minus .ok) (c .before .minus .ensures) (at .loop .inv .1) (c .if1 .left))
 
 returns-2 : tie.Need-returns-2 Inv-loop μ-loop
 unfolding refusals

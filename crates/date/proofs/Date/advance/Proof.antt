@@ -1,7 +1,7 @@
 -- `date::Date::advance` meets its contract.
 -- Assumes nothing.
-use Rattle.refusal.specs.Laws.{passed, failed}
-use Rattle.period.specs.Signed.{same32}
+use Rattle.refusal.specs.Laws.Answers.{passed, failed}
+use Rattle.period.specs.Laws.Signed.{same32}
 use Rattle.date.specs.Date.{dated, advanceOf}
 use borrow.Author.Needs.{needs}
 use Rattle.date.proofs.Date.advance.Statement.{statement}

@@ -3,7 +3,7 @@
 use mathlib.Core.Path.{refl}
 use native.Mathlib.Omega.{arith}
 use borrow.Author.Tests.{lt-ltb, le-ltb, eq-eqb, ne-eqb}
-use Rattle.refusal.specs.Laws.{passed, failed}
+use Rattle.refusal.specs.Laws.Answers.{passed, failed}
 use Rattle.date.specs.Date.{compared, compareOf, orderOf}
 use borrow.Author.Needs.{needs}
 use Rattle.date.proofs.Date.compare.Statement.{statement}

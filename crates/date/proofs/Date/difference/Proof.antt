@@ -4,9 +4,9 @@ use mathlib.Core.Path.{_≡_, refl, sym, ap, _∙_}
 use native.Mathlib.Omega.{arith}
 use Prim.Native.Nat.{_≤_}
 use Rattle.refusal.specs.Answer.{given}
-use Rattle.refusal.specs.Laws.{passed, failed}
+use Rattle.refusal.specs.Laws.Answers.{passed, failed}
 use Rattle.date.specs.Date.{counted, differenceOf}
-use Rattle.date.specs.Moves.{book-le, diff32, diff-fits, diff-back}
+use Rattle.date.specs.Laws.Moves.{book-le, diff32, diff-fits, diff-back}
 use borrow.Author.Needs.{needs}
 use Rattle.date.proofs.Date.difference.Statement.{statement}
 use Rattle.date.proofs.Date.difference.Tie as tie

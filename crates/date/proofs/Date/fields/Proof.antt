@@ -2,7 +2,7 @@
 -- Assumes nothing.
 use mathlib.Core.Path.{ap}
 use Rattle.refusal.specs.Answer.{given}
-use Rattle.refusal.specs.Laws.{passed, failed}
+use Rattle.refusal.specs.Laws.Answers.{passed, failed}
 use Rattle.date.specs.Date.{split, fieldsIn}
 use borrow.Author.Needs.{needs}
 use Rattle.date.proofs.Date.fields.Statement.{statement}

@@ -3,8 +3,8 @@
 use native.Mathlib.Omega.{arith}
 use Rattle.date.specs.Civil.{monthLength}
 use Rattle.date.specs.Date.{dated}
-use Rattle.date.specs.Months.{length-le}
-use Rattle.date.specs.Made.{make-early, make-late, make-month-0, make-month-13, make-day-0, make-day-over, make-ok}
+use Rattle.date.specs.Laws.Months.{length-le}
+use Rattle.date.specs.Laws.Made.{make-early, make-late, make-month-0, make-month-13, make-day-0, make-day-over, make-ok}
 use borrow.Author.Needs.{needs}
 use Rattle.date.proofs.Date.make.Statement.{statement}
 use Rattle.date.proofs.Date.make.Tie as tie

@@ -1,6 +1,6 @@
 -- `date::Date::month_end` meets its contract.
 -- Assumes nothing.
-use Rattle.refusal.specs.Laws.{passed, failed}
+use Rattle.refusal.specs.Laws.Answers.{passed, failed}
 use Rattle.date.specs.Date.{dated, monthEndOf}
 use borrow.Author.Needs.{needs}
 use Rattle.date.proofs.Date.month_end.Statement.{statement}

@@ -1,7 +1,7 @@
 -- `date::Date::next_weekday` meets its contract.
 -- Assumes nothing.
 use borrow.Author.Tests.{le-leb, lt-leb}
-use Rattle.refusal.specs.Laws.{fails, after, holds, passed, failed}
+use Rattle.refusal.specs.Laws.Answers.{fails, after, holds, passed, failed}
 use Rattle.date.specs.Date.{dated, nextWeekdayOf}
 use borrow.Author.Needs.{needs}
 use Rattle.date.proofs.Date.next_weekday.Statement.{statement}

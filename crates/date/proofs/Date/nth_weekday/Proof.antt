@@ -3,10 +3,10 @@
 use mathlib.Core.Path.{_∙_}
 use native.Mathlib.Omega.{arith}
 use borrow.Author.Tests.{lt-leb}
-use Rattle.refusal.specs.Laws.{fails, after, then-refused}
+use Rattle.refusal.specs.Laws.Answers.{fails, after, then-refused}
 use Rattle.date.specs.Date.{dated, nthWeekdayOf}
-use Rattle.date.specs.Made.{given-day, refused-day}
-use Rattle.date.specs.Moves.{until-at, nth-of}
+use Rattle.date.specs.Laws.Made.{given-day, refused-day}
+use Rattle.date.specs.Laws.Moves.{until-at, nth-of}
 use Rattle.date.proofs.Ends.{nth-over, nth-within}
 use borrow.Author.Needs.{needs}
 use Rattle.date.proofs.Date.nth_weekday.Statement.{statement}

@@ -3,8 +3,8 @@
 use Prim.Native.Nat.{_-_}
 use native.Mathlib.Omega.{arith}
 use Rattle.date.specs.Civil.{dayNumber, monthLength}
-use Rattle.date.specs.Years.{gone-small}
-use Rattle.date.specs.Months.{row-le, sum-small}
+use Rattle.date.specs.Laws.Years.{gone-small}
+use Rattle.date.specs.Laws.Months.{row-le, sum-small}
 use borrow.Author.Needs.{needs}
 use Rattle.date.proofs.civil.clamped_number.Statement.{statement}
 use Rattle.date.proofs.civil.clamped_number.Tie as tie

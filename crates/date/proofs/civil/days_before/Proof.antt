@@ -1,4 +1,4 @@
-use Rattle.date.specs.Months.{sum-early, sum-late}
+use Rattle.date.specs.Laws.Months.{sum-early, sum-late}
 use Rattle.date.proofs.Rows.{flag-below}
 use native.Mathlib.Omega.{arith}
 use borrow.Author.Needs.{needs}

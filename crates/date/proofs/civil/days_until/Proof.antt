@@ -2,7 +2,7 @@
 -- Assumes nothing.
 use native.Mathlib.Omega.{arith}
 use Rattle.date.specs.Civil.{daysUntil}
-use Rattle.date.specs.Moves.{weekday-small}
+use Rattle.date.specs.Laws.Moves.{weekday-small}
 use borrow.Author.Needs.{needs}
 use Rattle.date.proofs.civil.days_until.Statement.{statement}
 use Rattle.date.proofs.civil.days_until.Tie as tie

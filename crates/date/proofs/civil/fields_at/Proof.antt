@@ -1,6 +1,6 @@
 use Rattle.date.specs.Civil.{fieldsAt, pickN}
-use Rattle.date.specs.Months.{small}
-use Rattle.date.specs.Years.{in-year, years-few, years-low}
+use Rattle.date.specs.Laws.Months.{small}
+use Rattle.date.specs.Laws.Years.{in-year, years-few, years-low}
 use Prim.Native.Nat.{_-_, _<_}
 use native.Mathlib.Omega.{arith}
 use borrow.Author.Needs.{needs}

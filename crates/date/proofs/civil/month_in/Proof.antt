@@ -1,4 +1,4 @@
-use Rattle.date.specs.Months.{month-short, month-whole, month-last}
+use Rattle.date.specs.Laws.Months.{month-short, month-whole, month-last}
 use native.Mathlib.Omega.{arith}
 use borrow.Author.Needs.{needs}
 use Rattle.date.proofs.civil.month_in.Statement.{statement}

@@ -1,4 +1,4 @@
-use Rattle.date.specs.Months.{place-by}
+use Rattle.date.specs.Laws.Months.{place-by}
 use mathlib.Core.Path.{refl}
 use borrow.Author.Needs.{needs}
 use Rattle.date.proofs.civil.place_in.Statement.{statement}

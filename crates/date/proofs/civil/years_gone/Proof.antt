@@ -1,5 +1,5 @@
 use Rattle.date.specs.Civil.{guess}
-use Rattle.date.specs.Years.{years-stay, years-up}
+use Rattle.date.specs.Laws.Years.{years-stay, years-up}
 use mathlib.Core.Path.{sym}
 use native.Mathlib.Omega.{arith}
 use borrow.Author.Needs.{needs}

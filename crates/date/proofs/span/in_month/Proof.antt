@@ -3,7 +3,7 @@
 use mathlib.Core.Path.{refl}
 use native.Mathlib.Omega.{arith}
 use Rattle.date.specs.Date.{dated}
-use Rattle.date.specs.Moves.{month-early, month-late, month-day-0, month-day}
+use Rattle.date.specs.Laws.Moves.{month-early, month-late, month-day-0, month-day}
 use Rattle.date.proofs.Ends.{not-over}
 use borrow.Author.Needs.{needs}
 use Rattle.date.proofs.span.in_month.Statement.{statement}

@@ -2,7 +2,7 @@
 -- Assumes nothing.
 use native.Mathlib.Omega.{arith}
 use Rattle.date.specs.Date.{shiftMonths, monthIndex}
-use Rattle.date.specs.Moves.{valid-at}
+use Rattle.date.specs.Laws.Moves.{valid-at}
 use borrow.Author.Needs.{needs}
 use Rattle.date.proofs.span.shift_months.Statement.{statement}
 use Rattle.date.proofs.span.shift_months.Tie as tie

@@ -1,4 +1,4 @@
-use Rattle.date.specs.Moves.{step-back, step-on}
+use Rattle.date.specs.Laws.Moves.{step-back, step-on}
 use mathlib.Core.Path.{refl}
 use native.Mathlib.Omega.{arith}
 use borrow.Author.Needs.{needs}

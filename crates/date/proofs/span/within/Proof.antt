@@ -1,7 +1,7 @@
 -- `date::span::within` meets its contract.
 -- Assumes nothing.
 use Rattle.date.specs.Date.{dated}
-use Rattle.date.specs.Moves.{span-early, span-late, span-in}
+use Rattle.date.specs.Laws.Moves.{span-early, span-late, span-in}
 use borrow.Author.Needs.{needs}
 use Rattle.date.proofs.span.within.Statement.{statement}
 use Rattle.date.proofs.span.within.Tie as tie

@@ -26,13 +26,19 @@ same-length : tie.Need-same-length
 same-length c = search needs
 
 returns : tie.Need-returns
-returns c = λ ok. wednesdays-middle ok _ _ _ _ _ _ (c .before .before .before .before .enum-told .given .1) (c .before .before .move-middle .ensures)
+returns c =
+    let move-middle : tie.After-move-middle = search in
+    let enum-told : tie.After-enum-told = search in
+    λ ok. wednesdays-middle ok _ _ _ _ _ _ (enum-told .enum-told .given .1) (move-middle .move-middle .ensures)
 
 same-length-2 : tie.Need-same-length-2
 same-length-2 c = search needs
 
 returns-2 : tie.Need-returns-2
-returns-2 c = λ ok. wednesdays-all ok _ _ _ _ _ _ (c .before .before .before .before .enum-told2 .given .1) (c .before .before .move-all .ensures)
+returns-2 c =
+    let move-all : tie.After-move-all = search in
+    let enum-told2 : tie.After-enum-told2 = search in
+    λ ok. wednesdays-all ok _ _ _ _ _ _ (enum-told2 .enum-told2 .given .1) (move-all .move-all .ensures)
 
 returns-3 : tie.Need-returns-3
 unfolding done

@@ -1,8 +1,7 @@
 -- `forwards::closing::close` meets its contract.
 -- Assumes nothing.
-use Rattle.working.specs.Chains.{filling-as}
-use Rattle.working.specs.Held.{in-part}
-use Rattle.forwards.proofs.Forthing.{close-stop, close-closed, close-same, close-put}
+use Rattle.forwards.proofs.Forthing.{last-date, closing-at}
+use Rattle.working.specs.Part.{begun-placed}
 use borrow.Author.Needs.{needs}
 use Rattle.forwards.proofs.closing.close.Statement.{statement}
 use Rattle.forwards.proofs.closing.close.Tie as tie
@@ -18,41 +17,58 @@ newest-requires c κs = search needs
 adjust-requires : tie.Need-adjust-requires
 adjust-requires c κs = search needs
 
-enum-known-last : tie.Need-enum-known-last
-enum-known-last c = search needs
-
-enum-known-last-2 : tie.Need-enum-known-last-2
-enum-known-last-2 c = search needs
-
-adjust-requires-2 : tie.Need-adjust-requires-2
-adjust-requires-2 c κs = search needs
-
-enum-known-moved : tie.Need-enum-known-moved
-enum-known-moved c = search needs
-
-enum-known-moved-2 : tie.Need-enum-known-moved-2
-enum-known-moved-2 c = search needs
+enum-known-k : tie.Need-enum-known-k
+enum-known-k c = search needs
 
 same-length : tie.Need-same-length
 same-length c = search needs
 
 returns : tie.Need-returns
-returns c = λ b. close-same _ _ (b .part) (b .some) _ (in-part (b .part) (c .before .before .before .before .before .before .before .before .before .before .before .newest .ensures)) (c .before .before .before .before .before .before .before .before .before .before .adjust .result) (c .before .before .before .before .before .before .before .before .before .before .adjust .ensures (b .calendar)) _ (c .before .before .before .before .before .before .before .before .last2 .given .1) (c .before .before .before .before .before .before .adjust2 .result) (c .before .before .before .before .before .before .adjust2 .ensures (b .calendar)) _ (c .before .before .before .before .moved2 .given .1) (c .if1 .taken)
+returns c =
+    let stop : tie.After-k = search in
+    let moved : tie.After-adjust = search in
+    let last : tie.After-newest = search in
+    record { run = λ b. closing-at _ b _ (last .newest .ensures) (search (last-date, moved .adjust .ensures (b .calendar), stop .k .given .1)) }
 
-put-closing-requires : tie.Need-put-closing-requires
-put-closing-requires c κs = search needs
+enum-known-a : tie.Need-enum-known-a
+enum-known-a c = search needs
+
+adjust-requires-2 : tie.Need-adjust-requires-2
+adjust-requires-2 c κs = search needs
+
+enum-known-k-2 : tie.Need-enum-known-k-2
+enum-known-k-2 c = search needs
 
 same-length-2 : tie.Need-same-length-2
 same-length-2 c = search needs
 
 returns-2 : tie.Need-returns-2
-returns-2 c = λ b. close-stop _ _ (b .part) (b .some) _ (in-part (b .part) (c .before .before .before .before .newest .ensures)) (c .before .before .before .adjust .result) (c .before .before .before .adjust .ensures (b .calendar)) _ (c .before .last .given .1)
+returns-2 c =
+    let stop : tie.After-k2 = search in
+    let end : tie.After-adjust2 = search in
+    let one : tie.After-a = search in
+    let moved : tie.After-adjust = search in
+    let last : tie.After-newest = search in
+    record { run = λ b. closing-at _ b _ (last .newest .ensures) (search (last-date, moved .adjust .ensures (b .calendar), one .a .given .1, end .adjust2 .ensures (b .calendar), stop .k2 .given .1)) }
+
+enum-known-b : tie.Need-enum-known-b
+enum-known-b c = search needs
 
 same-length-3 : tie.Need-same-length-3
 same-length-3 c = search needs
 
 returns-3 : tie.Need-returns-3
-returns-3 c = λ b. close-closed _ _ (b .part) (b .some) _ (in-part (b .part) (c .before .before .before .before .before .before .before .before .newest .ensures)) (c .before .before .before .before .before .before .before .adjust .result) (c .before .before .before .before .before .before .before .adjust .ensures (b .calendar)) _ (c .before .before .before .before .before .last2 .given .1) (c .before .before .before .adjust2 .result) (c .before .before .before .adjust2 .ensures (b .calendar)) _ (c .before .moved .given .1)
+returns-3 c =
+    let test : tie.Then1 = search in
+    let two : tie.After-b = search in
+    let end : tie.After-adjust2 = search in
+    let one : tie.After-a = search in
+    let moved : tie.After-adjust = search in
+    let last : tie.After-newest = search in
+    record { run = λ b. closing-at _ b _ (last .newest .ensures) (search (last-date, moved .adjust .ensures (b .calendar), one .a .given .1, end .adjust2 .ensures (b .calendar), two .b .given .1, test .if1 .taken, begun-placed b)) }
+
+put-closing-requires : tie.Need-put-closing-requires
+put-closing-requires c κs = search needs
 
 same-length-4 : tie.Need-same-length-4
 same-length-4 c = search needs
@@ -61,7 +77,15 @@ same-length-5 : tie.Need-same-length-5
 same-length-5 c = search needs
 
 returns-4 : tie.Need-returns-4
-returns-4 c = λ b. filling-as (close-put _ _ (b .part) (b .some) _ (in-part (b .part) (c .before .before .before .before .before .before .before .before .before .before .before .before .before .before .before .before .before .before .newest .ensures)) (c .before .before .before .before .before .before .before .before .before .before .before .before .before .before .before .before .before .adjust .result) (c .before .before .before .before .before .before .before .before .before .before .before .before .before .before .before .before .before .adjust .ensures (b .calendar)) _ (c .before .before .before .before .before .before .before .before .before .before .before .before .before .before .before .last2 .given .1) (c .before .before .before .before .before .before .before .before .before .before .before .before .before .adjust2 .result) (c .before .before .before .before .before .before .before .before .before .before .before .before .before .adjust2 .ensures (b .calendar)) _ (c .before .before .before .before .before .before .before .before .before .before .before .moved2 .given .1) (c .before .before .before .before .before .before .before .if1 .left)) (c .before .before .before .before .put-closing .ensures (b .part))
+returns-4 c =
+    let put : tie.After-put-closing = search in
+    let test : tie.Else1 = search in
+    let two : tie.After-b = search in
+    let end : tie.After-adjust2 = search in
+    let one : tie.After-a = search in
+    let moved : tie.After-adjust = search in
+    let last : tie.After-newest = search in
+    record { run = λ b. closing-at _ b _ (last .newest .ensures) (search (last-date, moved .adjust .ensures (b .calendar), one .a .given .1, end .adjust2 .ensures (b .calendar), two .b .given .1, test .if1 .left, put .put-closing .ensures, b .part)) }
 
 pub close-spec : {M : Type 1} → statement M
 close-spec =
@@ -69,18 +93,18 @@ close-spec =
     (tie.spec
     newest-requires
     adjust-requires
-    enum-known-last
-    enum-known-last-2
-    adjust-requires-2
-    enum-known-moved
-    enum-known-moved-2
+    enum-known-k
     same-length
     returns
-    put-closing-requires
+    enum-known-a
+    adjust-requires-2
+    enum-known-k-2
     same-length-2
     returns-2
+    enum-known-b
     same-length-3
     returns-3
+    put-closing-requires
     same-length-4
     same-length-5
     returns-4)

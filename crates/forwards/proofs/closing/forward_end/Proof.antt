@@ -1,7 +1,8 @@
 -- `forwards::closing::forward_end` meets its contract.
 -- Assumes nothing.
 use Rattle.steps.specs.Generate.{forwardEnd}
-use Rattle.working.specs.After.{filled-ends}
+use Rattle.working.specs.Part.{filled-stops, filled-on}
+use Rattle.working.specs.Making.{generated-is-refused}
 use Rattle.forwards.proofs.Forthing.{forth-made}
 use borrow.Author.Needs.{needs}
 use Rattle.forwards.proofs.closing.forward_end.Statement.{statement}
@@ -13,11 +14,8 @@ use Rattle.forwards.proofs.closing.shut.Reads as shut-reads
 shut-requires : tie.Need-shut-requires
 shut-requires c κs = search needs
 
-enum-known-last : tie.Need-enum-known-last
-enum-known-last c = search needs
-
-enum-known-last-2 : tie.Need-enum-known-last-2
-enum-known-last-2 c = search needs
+enum-known-k : tie.Need-enum-known-k
+enum-known-k c = search needs
 
 same-length : tie.Need-same-length
 same-length c = search needs
@@ -27,7 +25,13 @@ same-length-2 c = search needs
 
 returns : tie.Need-returns
 unfolding forwardEnd
-returns c = λ b k. filled-ends (c .before .before .before .before .before .before .before .shut .ensures b k) _ _ (c .before .last .given .1)
+returns c =
+    let stop : tie.After-k = search in
+    let shut : tie.After-shut = search in
+    record { run = λ a. filled-stops _ _ (shut .shut .ensures) _ (stop .k .given .1) a (generated-is-refused _) }
+
+enum-known-n : tie.Need-enum-known-n
+enum-known-n c = search needs
 
 same-length-3 : tie.Need-same-length-3
 same-length-3 c = search needs
@@ -36,18 +40,22 @@ same-length-4 : tie.Need-same-length-4
 same-length-4 c = search needs
 
 returns-2 : tie.Need-returns-2
-returns-2 c = λ b k. forth-made _ _ _ _ _ (c .before .before .before .before .before .before .before .shut .ensures b k) _ (c .before .last2 .given .1)
+unfolding forwardEnd
+returns-2 c =
+    let ready : tie.After-n = search in
+    let shut : tie.After-shut = search in
+    record { run = λ a. filled-on _ _ (shut .shut .ensures) _ (ready .n .given .1) a (λ p. forth-made _ _ p) }
 
 pub forward-end-spec : {M : Type 1} → statement M
 forward-end-spec =
     tie.close
     (tie.spec
     shut-requires
-    enum-known-last
-    enum-known-last-2
+    enum-known-k
     same-length
     same-length-2
     returns
+    enum-known-n
     same-length-3
     same-length-4
     returns-2)

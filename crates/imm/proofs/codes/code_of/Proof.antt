@@ -3,7 +3,7 @@
 use Rattle.imm.proofs.Ways.{code-made}
 use native.Mathlib.Omega.{arith}
 use Rattle.imm.specs.Imm.{letters}
-use Rattle.date.specs.Moves.{valid-at}
+use Rattle.date.specs.Laws.Moves.{valid-at}
 use borrow.Author.Needs.{needs}
 use Rattle.imm.proofs.codes.code_of.Statement.{statement}
 use Rattle.imm.proofs.codes.code_of.Tie as tie

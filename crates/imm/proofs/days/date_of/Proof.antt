@@ -2,7 +2,7 @@
 -- Assumes nothing.
 use Rattle.imm.specs.Imm.{dateOf}
 use native.Mathlib.Omega.{arith}
-use Rattle.date.specs.Moves.{year-at}
+use Rattle.date.specs.Laws.Moves.{year-at}
 use borrow.Author.Needs.{needs}
 use Rattle.imm.proofs.days.date_of.Statement.{statement}
 use Rattle.imm.proofs.days.date_of.Tie as tie

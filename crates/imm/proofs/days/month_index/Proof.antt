@@ -2,7 +2,7 @@
 -- Assumes nothing.
 use native.Mathlib.Omega.{arith}
 use Rattle.date.specs.Date.{monthIndex}
-use Rattle.date.specs.Moves.{year-at, valid-at}
+use Rattle.date.specs.Laws.Moves.{year-at, valid-at}
 use borrow.Author.Needs.{needs}
 use Rattle.imm.proofs.days.month_index.Statement.{statement}
 use Rattle.imm.proofs.days.month_index.Tie as tie

@@ -1,19 +1,20 @@
 -- `opening::second::put_first` meets its contract.
 -- Assumes nothing.
-use Rattle.working.specs.Held.{in-part}
-use Rattle.opening.proofs.Openers.{opens-stop, opens-as, first-full, first-stop, first-put}
+use Rattle.opening.proofs.Openers.{second-date, first-on}
 use borrow.Author.Needs.{needs}
 use Rattle.opening.proofs.second.put_first.Statement.{statement}
 use Rattle.opening.proofs.second.put_first.Tie as tie
 use Rattle.opening.proofs.second.put_first.Reads as reads
 use Rattle.opening.proofs.second.put_first.Lts as lts
-use Rattle.working.proofs.lists.newest.Reads as newest-reads
 use Rattle.steps.proofs.flags.same_flag.Reads as same-flag-reads
 use Rattle.opening.proofs.second.put_seed.Reads as put-seed-reads
 use Rattle.opening.proofs.second.tenor_on.Reads as tenor-on-reads
+use Rattle.working.proofs.lists.newest.Reads as newest-reads
 
 returns : tie.Need-returns
-returns c = λ b. opens-stop _ _ _ _ _ (first-full _ _ (b .part) (c .if1 .taken))
+returns c =
+    let full : tie.Then1 = search in
+    record { run = λ b. search (second-date, full .if1 .taken) }
 
 newest-requires : tie.Need-newest-requires
 newest-requires c κs = search needs
@@ -21,23 +22,30 @@ newest-requires c κs = search needs
 tenor-on-requires : tie.Need-tenor-on-requires
 tenor-on-requires c κs = search needs
 
-enum-known-next : tie.Need-enum-known-next
-enum-known-next c = search needs
+enum-known-k : tie.Need-enum-known-k
+enum-known-k c = search needs
 
-enum-known-next-2 : tie.Need-enum-known-next-2
-enum-known-next-2 c = search needs
+same-length : tie.Need-same-length
+same-length c = search needs
+
+returns-2 : tie.Need-returns-2
+returns-2 c =
+    let stop : tie.After-k = search in
+    let next : tie.After-tenor-on = search in
+    let last : tie.After-newest = search in
+    let free : tie.Else1 = search in
+    record {
+      run = λ b. first-on _ b _ (free .if1 .left) (last .newest .ensures) (search (second-date, next .tenor-on .ensures (b .calendar), stop .k .given .1));
+    }
+
+enum-known-d : tie.Need-enum-known-d
+enum-known-d c = search needs
 
 same-flag-requires : tie.Need-same-flag-requires
 same-flag-requires c κs = search needs
 
 put-seed-requires : tie.Need-put-seed-requires
 put-seed-requires c κs = search needs
-
-same-length : tie.Need-same-length
-same-length c = search needs
-
-returns-2 : tie.Need-returns-2
-returns-2 c = λ b. opens-stop _ _ _ _ _ (first-stop _ _ (b .part) (c .before .before .before .before .before .before .if1 .left) _ (in-part (b .part) (c .before .before .before .before .newest .ensures)) (c .before .before .before .tenor-on .result) (c .before .before .before .tenor-on .ensures (b .calendar)) _ (c .before .next .given .1))
 
 same-length-2 : tie.Need-same-length-2
 same-length-2 c = search needs
@@ -46,7 +54,16 @@ same-length-3 : tie.Need-same-length-3
 same-length-3 c = search needs
 
 returns-3 : tie.Need-returns-3
-returns-3 c = λ b. opens-as (first-put _ _ (b .part) (c .before .before .before .before .before .before .before .before .before .before .before .before .before .before .if1 .left) _ (in-part (b .part) (c .before .before .before .before .before .before .before .before .before .before .before .before .newest .ensures)) (c .before .before .before .before .before .before .before .before .before .before .before .tenor-on .result) (c .before .before .before .before .before .before .before .before .before .before .before .tenor-on .ensures (b .calendar)) _ _ (c .before .before .before .before .before .before .before .before .before .next2 .given .1) (c .before .before .before .before .before .before .before .same-flag .ensures)) (c .before .before .before .before .put-seed .ensures (b .part))
+returns-3 c =
+    let put : tie.After-put-seed = search in
+    let flag : tie.After-same-flag = search in
+    let day : tie.After-d = search in
+    let next : tie.After-tenor-on = search in
+    let last : tie.After-newest = search in
+    let free : tie.Else1 = search in
+    record {
+      run = λ b. first-on _ b _ (free .if1 .left) (last .newest .ensures) (search (second-date, next .tenor-on .ensures (b .calendar), day .d .given .1, flag .same-flag .ensures, put .put-seed .ensures, b .part));
+    }
 
 pub put-first-spec : {M : Type 1} → statement M
 put-first-spec =
@@ -55,12 +72,12 @@ put-first-spec =
     returns
     newest-requires
     tenor-on-requires
-    enum-known-next
-    enum-known-next-2
-    same-flag-requires
-    put-seed-requires
+    enum-known-k
     same-length
     returns-2
+    enum-known-d
+    same-flag-requires
+    put-seed-requires
     same-length-2
     same-length-3
     returns-3)

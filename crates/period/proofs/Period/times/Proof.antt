@@ -2,8 +2,8 @@
 -- Assumes nothing.
 use mir.Syntax.{w32}
 use mir.Val.{SFits}
-use Rattle.period.specs.Signed.{same32, widened, same64, product-fits, product-held}
-use Rattle.period.specs.Laws.{kept, times-low, times-high, times-given}
+use Rattle.period.specs.Laws.Signed.{same32, widened, same64, product-fits, product-held}
+use Rattle.period.specs.Laws.Times.{kept, times-low, times-high, times-given}
 use Rattle.period.specs.Period.{product}
 use Rattle.period.proofs.Period.times.Statement.{statement}
 use Rattle.period.proofs.Period.times.Tie as tie

@@ -1,7 +1,7 @@
 -- `period::sign::is_negative` meets its contract.
 -- Assumes nothing.
 use mathlib.Core.Path.{_∙_}
-use Rattle.period.specs.Signed.{same32, negative-test}
+use Rattle.period.specs.Laws.Signed.{same32, negative-test}
 use Rattle.period.proofs.sign.is_negative.Statement.{statement}
 use Rattle.period.proofs.sign.is_negative.Tie as tie
 

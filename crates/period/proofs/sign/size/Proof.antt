@@ -1,4 +1,4 @@
-use Rattle.period.specs.Signed.{abs-back, abs-fits, abs-fits-u, negated, same32, when-not}
+use Rattle.period.specs.Laws.Signed.{abs-back, abs-fits, abs-fits-u, negated, same32, when-not}
 use native.Mathlib.Omega.{arith}
 use lib.Dec.{T}
 use lib.Signed.{nonNeg}

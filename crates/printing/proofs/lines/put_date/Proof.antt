@@ -30,7 +30,15 @@ same-length : tie.Need-same-length
 same-length c = search needs
 
 returns : tie.Need-returns
-returns c = date-put _ _ (c .before .before .before .before .before .before .before .before .before .before .before .before .before .before .before .before .before .before .before .before .before .before .before .before .before .fields-of .ensures) (c .before .before .put-two4 .ensures) (c .before .before .before .before .before .before .put-byte2 .ensures) (c .before .before .before .before .before .before .before .before .before .before .put-two3 .ensures) (c .before .before .before .before .before .before .before .before .before .before .before .before .before .before .put-byte .ensures) (c .before .before .before .before .before .before .before .before .before .before .before .before .before .before .before .before .before .before .put-two2 .ensures) (c .before .before .before .before .before .before .before .before .before .before .before .before .before .before .before .before .before .before .before .before .before .before .put-two .ensures)
+returns c =
+    let put-two4 : tie.After-put-two4 = search in
+    let put-byte2 : tie.After-put-byte2 = search in
+    let put-two3 : tie.After-put-two3 = search in
+    let put-byte : tie.After-put-byte = search in
+    let put-two2 : tie.After-put-two2 = search in
+    let put-two : tie.After-put-two = search in
+    let fields-of : tie.After-fields-of = search in
+    date-put _ _ (fields-of .fields-of .ensures) (put-two4 .put-two4 .ensures) (put-byte2 .put-byte2 .ensures) (put-two3 .put-two3 .ensures) (put-byte .put-byte .ensures) (put-two2 .put-two2 .ensures) (put-two .put-two .ensures)
 
 pub put-date-spec : {M : Type 1} → statement M
 put-date-spec =

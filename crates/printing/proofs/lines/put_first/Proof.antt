@@ -16,7 +16,10 @@ same-length : tie.Need-same-length
 same-length c = search needs
 
 returns : tie.Need-returns
-returns c = first-put _ (c .before .before .put-byte .ensures) (c .before .before .before .before .before .before .put-date .ensures)
+returns c =
+    let put-byte : tie.After-put-byte = search in
+    let put-date : tie.After-put-date = search in
+    first-put _ (put-byte .put-byte .ensures) (put-date .put-date .ensures)
 
 pub put-first-spec : {M : Type 1} → statement M
 put-first-spec = tie.close (tie.spec put-date-requires put-byte-requires same-length returns)

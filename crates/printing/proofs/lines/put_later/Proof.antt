@@ -13,13 +13,18 @@ slice-aggregate-put-bytes : tie.Need-slice-aggregate-put-bytes
 slice-aggregate-put-bytes c = search needs
 
 put-bytes-requires : tie.Need-put-bytes-requires
-put-bytes-requires c κs = omega (arith, date-ends _ (c .before .before .before .before .put-date .ensures), (c .before .before .before .before .put-date .ensures) .size)
+put-bytes-requires c κs =
+    let put-date : tie.After-put-date = search in
+    omega (arith, date-ends _ (put-date .put-date .ensures), (put-date .put-date .ensures) .size)
 
 same-length : tie.Need-same-length
 same-length c = search needs
 
 returns : tie.Need-returns
-returns c = later-put _ _ (c .before .before .put-bytes .ensures) (c .before .before .before .before .before .before .before .put-date .ensures)
+returns c =
+    let put-bytes : tie.After-put-bytes = search in
+    let put-date : tie.After-put-date = search in
+    later-put _ _ (put-bytes .put-bytes .ensures) (put-date .put-date .ensures)
 
 pub put-later-spec : {M : Type 1} → statement M
 put-later-spec =

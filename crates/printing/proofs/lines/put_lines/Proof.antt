@@ -24,13 +24,21 @@ part-put-all-later-end : tie.Need-part-put-all-later-end
 part-put-all-later-end c = search needs
 
 put-all-later-requires : tie.Need-put-all-later-requires
-put-all-later-requires c κs = later-room (c .before .before .before .before .before .before .before .before .before .before .before .args .dates .now) _ (c .before .before .before .before .before .before .before .if1 .left) (c .before .before .before .before .before .before .before .before .before .before .before .pre) (c .before .before .before .before .put-first .ensures)
+put-all-later-requires c κs =
+    let put-first : tie.After-put-first = search in
+    let else1 : tie.Else1 = search in
+    let start : tie.Start = search in
+    later-room (start .args .dates .now) _ (else1 .if1 .left) (start .pre) (put-first .put-first .ensures)
 
 same-length : tie.Need-same-length
 same-length c = search needs
 
 returns-2 : tie.Need-returns-2
-returns-2 c = lines-put _ _ (c .before .before .before .before .before .before .before .before .before .before .if1 .left) (c .before .before .before .before .before .before .before .put-first .ensures) (c .before .before .put-all-later .ensures)
+returns-2 c =
+    let put-all-later : tie.After-put-all-later = search in
+    let put-first : tie.After-put-first = search in
+    let else1 : tie.Else1 = search in
+    lines-put _ _ (else1 .if1 .left) (put-first .put-first .ensures) (put-all-later .put-all-later .ensures)
 
 pub put-lines-spec : {M : Type 1} → statement M
 put-lines-spec =

@@ -2,7 +2,7 @@
 -- Assumes nothing.
 use native.Mathlib.Omega.{arith}
 use denote.Ref.{now}
-use Rattle.request.specs.Places.{placed}
+use Rattle.request.specs.Inner.Places.{placed}
 use Rattle.request.proofs.AskWays.{kept-9, kept-10, kept, request-is}
 use Rattle.request.proofs.asking.request_at.Statement.{statement}
 use Rattle.request.proofs.asking.request_at.Tie as tie
@@ -72,29 +72,52 @@ date-at-requires-3 : tie.Need-date-at-requires-3
 date-at-requires-3 c κs = search kept
 
 shared-slice-read-date-at-4 : tie.Need-shared-slice-read-date-at-4
-shared-slice-read-date-at-4 c = omega (arith, c .before .before .before .before .before .before .before .before .before .before .before .before .before .before .before .before .before .before .before .before .before .before .pre .twelve)
+shared-slice-read-date-at-4 c =
+    let start : tie.Start = search in
+    omega (arith, start .pre .twelve)
 
 date-at-requires-4 : tie.Need-date-at-requires-4
-date-at-requires-4 c κs = kept-9 (c .before .before .before .before .before .before .before .before .before .before .before .before .before .before .before .before .before .before .before .before .before .before .pre)
+date-at-requires-4 c κs =
+    let start : tie.Start = search in
+    kept-9 (start .pre)
 
 shared-slice-read-byte-at-5 : tie.Need-shared-slice-read-byte-at-5
-shared-slice-read-byte-at-5 c = omega (arith, c .before .before .before .before .before .before .before .before .before .before .before .before .before .before .before .before .before .before .before .before .before .before .before .before .pre .twelve)
+shared-slice-read-byte-at-5 c =
+    let rule-of : tie.After-rule-of = search in
+    let start : tie.Start = search in
+    omega (arith, start .pre .twelve)
 
 byte-at-requires-5 : tie.Need-byte-at-requires-5
-byte-at-requires-5 c κs = kept-10 (c .before .before .before .before .before .before .before .before .before .before .before .before .before .before .before .before .before .before .before .before .before .before .before .before .pre)
+byte-at-requires-5 c κs =
+    let rule-of : tie.After-rule-of = search in
+    let start : tie.Start = search in
+    kept-10 (start .pre)
 
 returns : tie.Need-returns
 returns c =
-    request-is (placed (now (c .before .before .before .before .before .before .before .before .before .before .before .before .before .before .before .before .before .before .before .before .before .before .before .before .before .args .bytes)) (now (c .before .before .before .before .before .before .before .before .before .before .before .before .before .before .before .before .before .before .before .before .before .before .before .before .before .args .places)))
-    (c .before .before .before .before .before .before .before .before .before .before .before .before .before .before .before .before .before .before .before .before .before .date-at .ensures)
-    (c .before .before .before .before .before .before .before .before .before .before .before .before .before .before .before .before .before .before .before .date-at2 .ensures)
-    (c .before .before .before .before .before .before .before .before .before .before .before .before .before .before .before .before .before .tenor-at .ensures)
-    (c .before .before .before .before .before .before .before .before .before .before .before .before .before .before .before .byte-at .ensures) (c .before .before .before .before .before .before .before .before .before .before .before .before .before .before .rule-of .ensures)
-    (c .before .before .before .before .before .before .before .before .before .before .before .before .byte-at2 .ensures) (c .before .before .before .before .before .before .before .before .before .before .before .convention-of .ensures)
-    (c .before .before .before .before .before .before .before .before .before .byte-at3 .ensures) (c .before .before .before .before .before .before .before .before .convention-of2 .ensures)
-    (c .before .before .before .before .before .before .byte-at4 .ensures)
-    (c .before .before .before .before .date-at3 .ensures)
-    (c .before .before .date-at4 .ensures)
+    let date-at4 : tie.After-date-at4 = search in
+    let date-at3 : tie.After-date-at3 = search in
+    let byte-at4 : tie.After-byte-at4 = search in
+    let convention-of2 : tie.After-convention-of2 = search in
+    let byte-at3 : tie.After-byte-at3 = search in
+    let convention-of : tie.After-convention-of = search in
+    let byte-at2 : tie.After-byte-at2 = search in
+    let rule-of : tie.After-rule-of = search in
+    let byte-at : tie.After-byte-at = search in
+    let tenor-at : tie.After-tenor-at = search in
+    let date-at2 : tie.After-date-at2 = search in
+    let date-at : tie.After-date-at = search in
+    let start : tie.Start = search in
+    request-is (placed (now (start .args .bytes)) (now (start .args .places)))
+    (date-at .date-at .ensures)
+    (date-at2 .date-at2 .ensures)
+    (tenor-at .tenor-at .ensures)
+    (byte-at .byte-at .ensures) (rule-of .rule-of .ensures)
+    (byte-at2 .byte-at2 .ensures) (convention-of .convention-of .ensures)
+    (byte-at3 .byte-at3 .ensures) (convention-of2 .convention-of2 .ensures)
+    (byte-at4 .byte-at4 .ensures)
+    (date-at3 .date-at3 .ensures)
+    (date-at4 .date-at4 .ensures)
     (c .byte-at5 .ensures)
 
 pub request-at-spec : {M : Type 1} → statement M

@@ -60,7 +60,9 @@ add-at c = search finds
 
 add-at-2 : tie.Need-add-at-2 Inv-loop μ-loop
 add-at-2 c =
-    record { fits = omega (arith, reached-on (c .before .before .before .before .loop .inv) (c .before .before .before .next-field .ensures) _ _ (c .before .tag .given .1)) }
+    let next-field : tie.After-next-field Inv-loop μ-loop = search in
+    let loop : tie.At-loop Inv-loop μ-loop = search in
+    record { fits = omega (arith, reached-on (loop .loop .inv) (next-field .next-field .ensures) _ _ (c .before .tag .given .1)) }
 
 loop-less : tie.Need-loop-less Inv-loop μ-loop
 loop-less c = search finds

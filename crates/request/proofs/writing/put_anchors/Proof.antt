@@ -26,11 +26,15 @@ same-length c = search needs
 
 returns : tie.Need-returns
 returns c =
-    let q = c .before .before .before .before .before .before .before .before .before .before .before .before .before .args .q in
+    let put-byte : tie.After-put-byte = search in
+    let put-date2 : tie.After-put-date2 = search in
+    let put-date : tie.After-put-date = search in
+    let start : tie.Start = search in
+    let q = start .args .q in
     let second = spelt 9 (bytes4 (q .penultimate .day)) in
     let mask = spelt 10 (q .mask ∷ []) in
-    laid-then _ _ _ (spelt 8 (bytes4 (q .first .day))) (second ++ mask) _ _ (c .before .before .before .before .before .before .before .before .before .before .put-date .ensures)
-    (laid-then _ _ _ second mask _ _ (c .before .before .before .before .before .before .put-date2 .ensures) (c .before .before .put-byte .ensures) refl)
+    laid-then _ _ _ (spelt 8 (bytes4 (q .first .day))) (second ++ mask) _ _ (put-date .put-date .ensures)
+    (laid-then _ _ _ second mask _ _ (put-date2 .put-date2 .ensures) (put-byte .put-byte .ensures) refl)
     refl
 
 pub put-anchors-spec : {M : Type 1} → statement M

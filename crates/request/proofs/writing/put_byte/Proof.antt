@@ -25,8 +25,10 @@ same-length c = search needs
 
 returns : tie.Need-returns
 returns c =
-    let a = c .before .before .before .before .before .args in
-    laid-then _ _ _ (headOf (a .tag) 1) (a .b ∷ []) _ _ (c .before .before .put-head .ensures) (one-store _ _ _) refl
+    let put-head : tie.After-put-head = search in
+    let start : tie.Start = search in
+    let a = start .args in
+    laid-then _ _ _ (headOf (a .tag) 1) (a .b ∷ []) _ _ (put-head .put-head .ensures) (one-store _ _ _) refl
 
 pub put-byte-spec : {M : Type 1} → statement M
 put-byte-spec = tie.close (tie.spec put-head-requires add-out slice-write-out same-length returns)

@@ -45,13 +45,22 @@ same-length c = search needs
 
 returns : tie.Need-returns
 returns c =
-    let q = c .before .before .before .before .before .before .before .before .before .before .before .before .before .before .before .before .before .before .before .before .before .args .q in
+    let put-byte4 : tie.After-put-byte4 = search in
+    let bit-of : tie.After-bit-of = search in
+    let put-byte3 : tie.After-put-byte3 = search in
+    let convention-number2 : tie.After-convention-number2 = search in
+    let put-byte2 : tie.After-put-byte2 = search in
+    let convention-number : tie.After-convention-number = search in
+    let put-byte : tie.After-put-byte = search in
+    let rule-number : tie.After-rule-number = search in
+    let start : tie.Start = search in
+    let q = start .args .q in
     let convention = spelt 5 (conventionNumber (q .convention) ∷ []) in
     let terminal = spelt 6 (conventionNumber (q .terminal) ∷ []) in
     let monthend = spelt 7 (bit (q .monthend) ∷ []) in
-    laid-then _ _ _ (spelt 4 (ruleNumber (q .rule) ∷ [])) (convention ++ (terminal ++ monthend)) _ _ (byte-as _ _ _ _ _ _ (c .before .before .before .before .before .before .before .before .before .before .before .before .before .before .before .before .before .put-byte .ensures) (c .before .before .before .before .before .before .before .before .before .before .before .before .before .before .before .before .before .before .rule-number .ensures))
-    (laid-then _ _ _ convention (terminal ++ monthend) _ _ (byte-as _ _ _ _ _ _ (c .before .before .before .before .before .before .before .before .before .before .before .before .put-byte2 .ensures) (c .before .before .before .before .before .before .before .before .before .before .before .before .before .convention-number .ensures))
-    (laid-then _ _ _ terminal monthend _ _ (byte-as _ _ _ _ _ _ (c .before .before .before .before .before .before .before .put-byte3 .ensures) (c .before .before .before .before .before .before .before .before .convention-number2 .ensures)) (byte-as _ _ _ _ _ _ (c .before .before .put-byte4 .ensures) (c .before .before .before .bit-of .ensures)) refl)
+    laid-then _ _ _ (spelt 4 (ruleNumber (q .rule) ∷ [])) (convention ++ (terminal ++ monthend)) _ _ (byte-as _ _ _ _ _ _ (put-byte .put-byte .ensures) (rule-number .rule-number .ensures))
+    (laid-then _ _ _ convention (terminal ++ monthend) _ _ (byte-as _ _ _ _ _ _ (put-byte2 .put-byte2 .ensures) (convention-number .convention-number .ensures))
+    (laid-then _ _ _ terminal monthend _ _ (byte-as _ _ _ _ _ _ (put-byte3 .put-byte3 .ensures) (convention-number2 .convention-number2 .ensures)) (byte-as _ _ _ _ _ _ (put-byte4 .put-byte4 .ensures) (bit-of .bit-of .ensures)) refl)
     refl)
     refl
 

@@ -28,7 +28,11 @@ same-length : tie.Need-same-length
 same-length c = search needs
 
 returns : tie.Need-returns
-returns c = closed-laid _ _ _ _ _ (c .before .before .before .before .before .before .before .before .before .before .put-head .ensures) (c .before .before .before .before .before .before .put-words .ensures) (c .before .before .put-head2 .ensures)
+returns c =
+    let put-head2 : tie.After-put-head2 = search in
+    let put-words : tie.After-put-words = search in
+    let put-head : tie.After-put-head = search in
+    closed-laid _ _ _ _ _ (put-head .put-head .ensures) (put-words .put-words .ensures) (put-head2 .put-head2 .ensures)
 
 pub put-closed-spec : {M : Type 1} → statement M
 put-closed-spec =

@@ -25,8 +25,11 @@ same-length c = search needs
 
 returns : tie.Need-returns
 returns c =
-    let a = c .before .before .before .before .before .before .before .before .before .args in
-    laid-then _ _ _ (headOf (a .tag) 4) (bytes4 (a .day)) _ _ (c .before .before .before .before .before .before .put-head .ensures) (c .before .before .put-word .ensures) refl
+    let put-word : tie.After-put-word = search in
+    let put-head : tie.After-put-head = search in
+    let start : tie.Start = search in
+    let a = start .args in
+    laid-then _ _ _ (headOf (a .tag) 4) (bytes4 (a .day)) _ _ (put-head .put-head .ensures) (put-word .put-word .ensures) refl
 
 pub put-date-spec : {M : Type 1} → statement M
 put-date-spec =

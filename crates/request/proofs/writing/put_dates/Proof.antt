@@ -26,11 +26,15 @@ same-length c = search needs
 
 returns : tie.Need-returns
 returns c =
-    let q = c .before .before .before .before .before .before .before .before .before .before .before .before .before .before .args .q in
+    let put-tenor : tie.After-put-tenor = search in
+    let put-date2 : tie.After-put-date2 = search in
+    let put-date : tie.After-put-date = search in
+    let start : tie.Start = search in
+    let q = start .args .q in
     let second = spelt 2 (bytes4 (q .termination .day)) in
     let tenor = spelt 3 (tenorBody (q .tenor)) in
-    laid-then _ _ _ (spelt 1 (bytes4 (q .effective .day))) (second ++ tenor) _ _ (c .before .before .before .before .before .before .before .before .before .before .before .put-date .ensures)
-    (laid-then _ _ _ second tenor _ _ (c .before .before .before .before .before .before .before .put-date2 .ensures) (c .before .before .put-tenor .ensures) refl)
+    laid-then _ _ _ (spelt 1 (bytes4 (q .effective .day))) (second ++ tenor) _ _ (put-date .put-date .ensures)
+    (laid-then _ _ _ second tenor _ _ (put-date2 .put-date2 .ensures) (put-tenor .put-tenor .ensures) refl)
     refl
 
 pub put-dates-spec : {M : Type 1} → statement M

@@ -2,7 +2,7 @@
 -- Assumes nothing.
 use denote.Ref.{now}
 use native.Mathlib.Omega.{arith}
-use Rattle.request.specs.Round.{fits, few}
+use Rattle.request.specs.Laws.Round.{fits, few}
 use Rattle.request.proofs.PutWays.{request-laid}
 use borrow.Author.Needs.{needs}
 use Rattle.request.proofs.writing.put_request.Statement.{statement}
@@ -27,16 +27,22 @@ put-anchors-requires c κs = search needs
 
 put-closed-requires : tie.Need-put-closed-requires
 put-closed-requires c κs =
-    let p = c .before .before .before .before .before .before .before .before .before .before .before .before .before .before .before .pre in
-    (omega (arith, p .0), few (c .before .before .before .before .before .before .before .before .before .before .before .before .before .before .before .args .q) (now (c .before .before .before .before .before .before .before .before .before .before .before .before .before .before .before .args .closed)) (p .1))
+    let start : tie.Start = search in
+    let p = start .pre in
+    (omega (arith, p .0), few (start .args .q) (now (start .args .closed)) (p .1))
 
 same-length : tie.Need-same-length
 same-length c = search needs
 
 returns : tie.Need-returns
 returns c =
-    let p = c .before .before .before .before .before .before .before .before .before .before .before .before .before .before .before .before .before .before .pre in
-    request-laid _ _ _ _ _ _ _ (c .before .before .before .before .before .before .before .before .before .before .before .before .before .before .put-dates .ensures) (c .before .before .before .before .before .before .before .before .before .before .put-choices .ensures) (c .before .before .before .before .before .before .put-anchors .ensures) (c .before .before .put-closed .ensures) (p .1) (p .0)
+    let put-closed : tie.After-put-closed = search in
+    let put-anchors : tie.After-put-anchors = search in
+    let put-choices : tie.After-put-choices = search in
+    let put-dates : tie.After-put-dates = search in
+    let start : tie.Start = search in
+    let p = start .pre in
+    request-laid _ _ _ _ _ _ _ (put-dates .put-dates .ensures) (put-choices .put-choices .ensures) (put-anchors .put-anchors .ensures) (put-closed .put-closed .ensures) (p .1) (p .0)
 
 pub put-request-spec : {M : Type 1} → statement M
 put-request-spec =

@@ -38,9 +38,12 @@ add-out-2 c = search needs
 
 slice-write-out-2 : tie.Need-slice-write-out-2
 slice-write-out-2 c =
-    let l = c .before .before .put-head .last .0 in
-    let at = c .before .before .before .before .before .before .before .before .args .at in
-    omega (arith, length-set l (at + 3) (c .before .before .before .before .letter-of .result))
+    let put-head : tie.After-put-head = search in
+    let letter-of : tie.After-letter-of = search in
+    let start : tie.Start = search in
+    let l = put-head .put-head .last .0 in
+    let at = start .args .at in
+    omega (arith, length-set l (at + 3) (letter-of .letter-of .result))
 
 cast-out-2 : tie.Need-cast-out-2
 cast-out-2 c = search needs
@@ -50,18 +53,27 @@ add-out-3 c = search needs
 
 slice-write-out-3 : tie.Need-slice-write-out-3
 slice-write-out-3 c =
-    let l = c .before .before .put-head .last .0 in
-    let at = c .before .before .before .before .before .before .before .before .args .at in
-    let u = c .before .before .before .before .letter-of .result in
-    omega (arith, length-set l (at + 3) u, length-set (set l (at + 3) u) (at + 4) (c .before .before .before .before .before .bits-of .result / 256))
+    let put-head : tie.After-put-head = search in
+    let letter-of : tie.After-letter-of = search in
+    let bits-of : tie.After-bits-of = search in
+    let start : tie.Start = search in
+    let l = put-head .put-head .last .0 in
+    let at = start .args .at in
+    let u = letter-of .letter-of .result in
+    omega (arith, length-set l (at + 3) u, length-set (set l (at + 3) u) (at + 4) (bits-of .bits-of .result / 256))
 
 same-length : tie.Need-same-length
 same-length c = search needs
 
 returns : tie.Need-returns
 returns c =
-    laid-then _ _ _ (headOf 3 3) (tenorBody (c .before .before .before .before .before .before .before .before .args .tenor)) _ _ (c .before .before .put-head .ensures)
-    (tenor-stores _ _ _ _ _ _ _ (omega arith) (omega arith) (c .before .before .before .before .letter-of .ensures) (record { sfits = c .before .before .before .before .before .before .struct-told .given .0 .1 }) (c .before .before .before .before .before .bits-of .ensures))
+    let put-head : tie.After-put-head = search in
+    let letter-of : tie.After-letter-of = search in
+    let bits-of : tie.After-bits-of = search in
+    let struct-told : tie.After-struct-told = search in
+    let start : tie.Start = search in
+    laid-then _ _ _ (headOf 3 3) (tenorBody (start .args .tenor)) _ _ (put-head .put-head .ensures)
+    (tenor-stores _ _ _ _ _ _ _ (omega arith) (omega arith) (letter-of .letter-of .ensures) (record { sfits = struct-told .struct-told .given .0 .1 }) (bits-of .bits-of .ensures))
     refl
 
 pub put-tenor-spec : {M : Type 1} → statement M

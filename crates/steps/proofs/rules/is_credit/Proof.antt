@@ -2,7 +2,7 @@
 -- Assumes nothing.
 use mathlib.Core.Bool.{true, false}
 use Rattle.steps.specs.Rules.{rules, ruleNumber, oneOf, isCredit}
-use Rattle.steps.specs.RuleLaws.{agree, keep, keysOf}
+use Rattle.steps.specs.Laws.Rules.{agree, keep, keysOf}
 use Rattle.steps.proofs.Ways.{arm}
 use Rattle.steps.proofs.rules.is_credit.Statement.{statement}
 use Rattle.steps.proofs.rules.is_credit.Tie as tie

@@ -3,7 +3,7 @@
 use mathlib.Core.Bool.{true, false}
 use borrow.Author.Needs.{needs}
 use Rattle.steps.specs.Rules.{rules, ruleNumber, oneOf, isZero}
-use Rattle.steps.specs.RuleLaws.{agree, keep, keysOf}
+use Rattle.steps.specs.Laws.Rules.{agree, keep, keysOf}
 use Rattle.steps.proofs.Ways.{arm}
 use Rattle.steps.proofs.rules.is_zero.Statement.{statement}
 use Rattle.steps.proofs.rules.is_zero.Tie as tie

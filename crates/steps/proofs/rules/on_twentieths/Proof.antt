@@ -2,7 +2,7 @@
 -- Assumes nothing.
 use mathlib.Core.Bool.{true, false}
 use Rattle.steps.specs.Rules.{rules, ruleNumber, oneOf, onTwentieths}
-use Rattle.steps.specs.RuleLaws.{agree, keep, keysOf}
+use Rattle.steps.specs.Laws.Rules.{agree, keep, keysOf}
 use Rattle.steps.proofs.Ways.{arm}
 use Rattle.steps.proofs.rules.on_twentieths.Statement.{statement}
 use Rattle.steps.proofs.rules.on_twentieths.Tie as tie

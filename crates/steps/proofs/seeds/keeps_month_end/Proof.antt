@@ -5,10 +5,10 @@ use Rattle.steps.proofs.seeds.keeps_month_end.Statement.{statement}
 use Rattle.steps.proofs.seeds.keeps_month_end.Tie as tie
 use Rattle.steps.proofs.seeds.keeps_month_end.Reads as reads
 use Rattle.steps.proofs.seeds.keeps_month_end.Lts as lts
-use Rattle.steps.proofs.seeds.is_last_day.Reads as is-last-day-reads
+use Rattle.date.proofs.civil.month_length.Reads as month-length-reads
 
-is-last-day-requires : tie.Need-is-last-day-requires
-is-last-day-requires c κs = search needs
+month-length-requires : tie.Need-month-length-requires
+month-length-requires c κs = search needs
 
 returns : tie.Need-returns
 returns c = cc
@@ -17,4 +17,4 @@ returns-2 : tie.Need-returns-2
 returns-2 c = search needs
 
 pub keeps-month-end-spec : {M : Type 1} → statement M
-keeps-month-end-spec = tie.close (tie.spec is-last-day-requires returns returns-2)
+keeps-month-end-spec = tie.close (tie.spec month-length-requires returns returns-2)

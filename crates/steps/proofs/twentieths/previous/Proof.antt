@@ -1,8 +1,8 @@
 -- `steps::twentieths::previous` meets its contract.
 -- Assumes nothing.
-use Rattle.refusal.specs.Laws.{then-given, then-refused}
+use Rattle.refusal.specs.Laws.Answers.{then-given, then-refused}
 use Rattle.date.specs.Date.{dated}
-use Rattle.date.specs.Made.{given-day, refused-day}
+use Rattle.date.specs.Laws.Made.{given-day, refused-day}
 use Rattle.steps.specs.Twentieths.{previousTwentieth}
 use borrow.Author.Needs.{needs}
 use Rattle.steps.proofs.twentieths.previous.Statement.{statement}

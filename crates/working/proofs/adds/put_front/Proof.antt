@@ -25,8 +25,8 @@ same-length-2 c = search needs
 
 returns : tie.Need-returns
 returns c =
-    let p = c .before .before .before .before .before .before .before in
-    λ part. stood-ready _ _ _ _ _ _ _ (p .put .ensures part) (c .before .put2 .given .0 .0) (cc)
+    let p : tie.After-put = search in
+    λ part. stood-ready _ _ _ _ _ _ (p .put .ensures .run part) (c .before .put2 .given .0 .0) (cc)
 
 same-length-3 : tie.Need-same-length-3
 same-length-3 c = search needs
@@ -36,8 +36,8 @@ same-length-4 c = search needs
 
 returns-2 : tie.Need-returns-2
 returns-2 c =
-    let p = c .before .before .before .before .before .before .before in
-    λ part. stood-refused _ _ _ _ _ _ _ (p .put .ensures part) (c .before .put3 .given .0 .0) (cc)
+    let p : tie.After-put = search in
+    λ part. stood-refused _ _ _ _ _ _ (p .put .ensures .run part) (c .before .put3 .given .0 .0) (cc)
 
 pub put-front-spec : {M : Type 1} → statement M
 put-front-spec =

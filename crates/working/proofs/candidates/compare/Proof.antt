@@ -6,11 +6,11 @@ use mathlib.Core.Logic.{⊎-elim}
 use Prim.Native.Nat.{ℕ}
 use denote.Ref.{now}
 use Rattle.refusal.specs.Answer.{given}
-use Rattle.date.specs.Made.{given-day}
+use Rattle.date.specs.Laws.Made.{given-day}
 use Rattle.calendar.specs.Open.{closedOk}
 use Rattle.calendar.specs.Adjust.{adjusted}
-use Rattle.calendar.specs.Near.{known-near}
-use Rattle.calendar.specs.Told.{placed-day, placed-refused}
+use Rattle.calendar.specs.Inner.Near.{known-near}
+use Rattle.calendar.specs.Laws.Told.{placed-day, placed-refused}
 use Rattle.working.specs.Turning.{Front}
 use Rattle.working.proofs.Turns.{compare-stop, compare-closed, compare-skip, compare-settle, compare-keep}
 use borrow.Author.Needs.{needs}
@@ -21,12 +21,15 @@ use Rattle.working.proofs.candidates.compare.Lts as lts
 use Rattle.calendar.proofs.search.adjust.Reads as adjust-reads
 use Rattle.calendar.proofs.search.adjust_near.Reads as adjust-near-reads
 
+abbrev begins : tie.Joined1 → tie.Start
+begins j = search
+
 -- what is held is the newest date's adjusted date, found or known
-known : (j : tie.Joined1) →
-    closedOk (now (j .before .before .args .closed)) ≡ true →
-    Front (j .before .before .args .mask) (now (j .before .before .args .closed)) (j .before .before .args .convention) (j .before .before .args .front) (j .before .before .args .newest) →
-    adjusted (j .before .before .args .mask) (now (j .before .before .args .closed)) (j .before .before .args .convention) (j .before .before .args .newest) ≡ given (j .if1 .held)
-known j ok f =
+held : (j : tie.Joined1) →
+    closedOk (now (begins j .args .closed)) ≡ true →
+    Front (begins j .args .adjusting .mask) (now (begins j .args .closed)) (begins j .args .adjusting .convention) (begins j .args .known .front) (begins j .args .known .newest) →
+    adjusted (begins j .args .adjusting .mask) (now (begins j .args .closed)) (begins j .args .adjusting .convention) (begins j .args .known .newest) ≡ given (j .if1 .held)
+held j ok f =
     ⊎-elim
     (λ p. given-day (p .1 .result) (p .3 .given .0 .0) _ (p .1 .ensures ok) (p .3 .given .1) ∙ ap (λ (n : ℕ). given n) (sym (p .5)))
     (λ p. f .known (p .0 .left) ∙ ap (λ (n : ℕ). given n) (sym (p .1)))
@@ -40,8 +43,9 @@ enum-known-found c = search needs
 
 returns : tie.Need-returns
 returns c =
-    let found = c .before .before .before .adjust in
-    λ ok f m. compare-stop _ _ _ _ _ _ (found .result) (found .ensures ok) (c .before .found .given .0 .0) (c .before .found .given .1)
+    let stop : tie.After-found = search in
+    let found : tie.After-adjust = search in
+    λ ok k. compare-stop _ _ _ _ _ _ (found .adjust .result) (found .adjust .ensures ok) (stop .found .given .0 .0) (stop .found .given .1)
 
 enum-known-found-2 : tie.Need-enum-known-found-2
 enum-known-found-2 c = search needs
@@ -57,26 +61,31 @@ enum-known-moved-2 c = search needs
 
 returns-2 : tie.Need-returns-2
 returns-2 c =
-    let a = c .before .before .before .before in
-    let b = c .before .before .moved2 .given in
-    λ ok f m. compare-skip _ _ _ _ _ _ _ (known (a .before) ok f) _ _ (placed-day _ _ (a .adjust-near .ensures ok m .says) _ _ (b .1)) (known-near _ _ _ (a .adjust-near .ensures ok m .known) (b .1)) (c .if2 .taken)
+    let b : tie.After-moved2 = search in
+    let a : tie.After-adjust-near = search in
+    let join : tie.Joined1 = search in
+    λ ok k. compare-skip _ _ _ _ _ _ _ (held join ok (k .front)) _ _ (placed-day _ _ (a .adjust-near .ensures ok (k .month) .says) _ _ (b .moved2 .given .1)) (known-near _ _ _ (a .adjust-near .ensures ok (k .month) .known) (b .moved2 .given .1)) (c .if2 .taken)
 
 returns-3 : tie.Need-returns-3
 returns-3 c =
-    let a = c .before .before .before .before .before in
-    let b = c .before .before .before .moved2 .given in
-    λ ok f m. compare-settle _ _ _ _ _ _ _ (known (a .before) ok f) _ _ (placed-day _ _ (a .adjust-near .ensures ok m .says) _ _ (b .1)) (known-near _ _ _ (a .adjust-near .ensures ok m .known) (b .1)) (c .before .if2 .left) (c .if3 .taken)
+    let b : tie.After-moved2 = search in
+    let a : tie.After-adjust-near = search in
+    let join : tie.Joined1 = search in
+    λ ok k. compare-settle _ _ _ _ _ _ _ (held join ok (k .front)) _ _ (placed-day _ _ (a .adjust-near .ensures ok (k .month) .says) _ _ (b .moved2 .given .1)) (known-near _ _ _ (a .adjust-near .ensures ok (k .month) .known) (b .moved2 .given .1)) (c .before .if2 .left) (c .if3 .taken)
 
 returns-4 : tie.Need-returns-4
 returns-4 c =
-    let a = c .before .before .before in
-    λ ok f m. compare-closed _ _ _ _ _ _ _ (known (a .before) ok f) _ (placed-refused _ _ (a .adjust-near .ensures ok m .says) _ (c .before .moved .given .1))
+    let stop : tie.After-moved = search in
+    let a : tie.After-adjust-near = search in
+    let join : tie.Joined1 = search in
+    λ ok k. compare-closed _ _ _ _ _ _ _ (held join ok (k .front)) _ (placed-refused _ _ (a .adjust-near .ensures ok (k .month) .says) _ (stop .moved .given .1))
 
 returns-5 : tie.Need-returns-5
 returns-5 c =
-    let a = c .before .before .before .before .before in
-    let b = c .before .before .before .moved2 .given in
-    λ ok f m. compare-keep _ _ _ _ _ _ _ (known (a .before) ok f) _ _ (placed-day _ _ (a .adjust-near .ensures ok m .says) _ _ (b .1)) (known-near _ _ _ (a .adjust-near .ensures ok m .known) (b .1)) (c .before .if2 .left) (c .if3 .left)
+    let b : tie.After-moved2 = search in
+    let a : tie.After-adjust-near = search in
+    let join : tie.Joined1 = search in
+    λ ok k. compare-keep _ _ _ _ _ _ _ (held join ok (k .front)) _ _ (placed-day _ _ (a .adjust-near .ensures ok (k .month) .says) _ _ (b .moved2 .given .1)) (known-near _ _ _ (a .adjust-near .ensures ok (k .month) .known) (b .moved2 .given .1)) (c .before .if2 .left) (c .if3 .left)
 
 pub compare-spec : {M : Type 1} → statement M
 compare-spec =

@@ -1,7 +1,7 @@
 use Prim.Native.Nat.{ℕ, min}
 use mathlib.Core.Path.{_≡_, ap, _∙_}
 use lib.IntN.{natAbs}
-use Rattle.period.specs.Signed.{same32}
+use Rattle.period.specs.Laws.Signed.{same32}
 use Rattle.working.proofs.Counting.{pace-days, pace-weeks, pace-months, pace-years}
 use borrow.Author.Needs.{needs}
 use Rattle.working.proofs.candidates.pace_of.Statement.{statement}

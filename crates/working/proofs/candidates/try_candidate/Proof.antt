@@ -24,22 +24,27 @@ is-past-requires c κs = search needs
 
 returns : tie.Need-returns
 returns c =
-    let k = c .before .before .before .before .before in
-    λ ok f m. turn-past _ _ _ _ _ _ _ _ _ _ (k .candidate .result) (k .candidate .ensures) (c .before .before .before .next2 .given .0 .0) (cc) (c .before .is-past .result) (c .before .is-past .ensures) (c .if1 .taken)
+    let past : tie.After-is-past = search in
+    let day : tie.After-next2 = search in
+    let next : tie.After-candidate = search in
+    λ ok f. turn-past _ _ _ _ _ _ _ _ _ _ (next .candidate .result) (next .candidate .ensures) (day .next2 .given .0 .0) (cc) (past .is-past .result) (past .is-past .ensures) (c .if1 .taken)
 
 compare-requires : tie.Need-compare-requires
 compare-requires c κs = search needs
 
 returns-2 : tie.Need-returns-2
 returns-2 c =
-    let k = c .before .before .before in
-    λ ok f m. turn-stop _ _ _ _ _ _ _ _ _ _ (k .candidate .result) (k .candidate .ensures) (c .before .next .given .0 .0) (cc)
+    let stop : tie.After-next = search in
+    let next : tie.After-candidate = search in
+    λ ok f. turn-stop _ _ _ _ _ _ _ _ _ _ (next .candidate .result) (next .candidate .ensures) (stop .next .given .0 .0) (cc)
 
 returns-3 : tie.Need-returns-3
 returns-3 c =
-    let p = c .before .before in
-    let k = p .before .before .before .before in
-    λ ok f m. turn-on _ _ _ _ _ _ _ _ _ _ (k .candidate .result) (k .candidate .ensures) (p .before .before .next2 .given .0 .0) (cc) (p .is-past .result) (p .is-past .ensures) _ (c .before .if1 .left) (c .compare .ensures ok f m)
+    let on : tie.Else1 = search in
+    let past : tie.After-is-past = search in
+    let day : tie.After-next2 = search in
+    let next : tie.After-candidate = search in
+    λ ok f. turn-on _ _ _ _ _ _ _ _ _ _ (next .candidate .result) (next .candidate .ensures) (day .next2 .given .0 .0) (cc) (past .is-past .result) (past .is-past .ensures) _ (on .if1 .left) (c .compare .ensures ok f)
 
 pub try-candidate-spec : {M : Type 1} → statement M
 try-candidate-spec =

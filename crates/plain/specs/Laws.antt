@@ -1,0 +1,26 @@
+-- What is proved of the definitions beside this folder, for proofs that stand on them.
+pub mod Straight
+pub mod Chain
+pub mod Turns
+pub mod Falling
+pub mod Rising
+pub mod Count
+pub mod Mirror
+pub mod Units
+pub mod Added
+pub mod Finished
+pub mod Tenor
+pub mod Walked
+pub mod Checks
+pub mod Onward
+pub mod Proved
+pub mod ForwardProved
+pub mod Lifted
+pub mod Memory
+pub mod Settled
+pub mod Shape
+pub mod Mosts
+pub mod MostOn
+pub mod Formula
+pub mod AgreeProved
+pub mod AgreeMemory

@@ -1,0 +1,2 @@
+-- What is proved of the definitions beside this folder, for proofs that stand on them.
+pub mod Handed
