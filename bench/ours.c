@@ -8,7 +8,9 @@ struct asked {
     struct build build;
     uint32_t day;
     int32_t length;
-    uint8_t unit, convention, monthend, main_cycle;
+    uint8_t unit, convention, monthend, main_cycle, basis;
+    uint32_t end_day, list[3];
+    size_t count;
     struct calendar calendar;
     int64_t answer;
 };
@@ -71,6 +73,24 @@ static void imm_date(void *with)
     a->answer = heronspan_imm_date(code, code_length, a->day);
 }
 
+static void year_fraction(void *with)
+{
+    struct asked *a = (struct asked *)with;
+    a->answer = heronspan_year_fraction(a->basis, a->day, a->end_day);
+}
+
+static void year_parts(void *with)
+{
+    struct asked *a = (struct asked *)with;
+    a->answer = heronspan_year_parts(a->basis, a->day, a->end_day, a->list, 2);
+}
+
+static void year_report(void *with)
+{
+    struct asked *a = (struct asked *)with;
+    a->answer = heronspan_year_report(dates, a->count, a->list, 3);
+}
+
 static void say_code(int64_t n)
 {
     if (n < 0)
@@ -84,9 +104,40 @@ static void say_number(int64_t n)
     printf(n < 0 ? "refused %lld" : "%lld", n < 0 ? -(long long)n : (long long)n);
 }
 
+/* Year fractions: bits, two parts, three sums. */
+static int ask_year(const char *kind)
+{
+    struct asked a = {0};
+    if (strcmp(kind, "yearreport") == 0) {
+        a.count = (size_t)number();
+        if (a.count > PLACES)
+            stop("more dates than there are places");
+        for (size_t i = 0; i < a.count; i++)
+            dates[i] = day();
+        print_times(year_report, &a);
+        printf("%u %u %u", a.list[0], a.list[1], a.list[2]);
+        return 1;
+    }
+    if (strcmp(kind, "yearfraction") && strcmp(kind, "yearparts"))
+        return 0;
+    a.basis = byte();
+    a.day = day();
+    a.end_day = day();
+    if (strcmp(kind, "yearfraction") == 0) {
+        print_times(year_fraction, &a);
+        printf("%016llx", (unsigned long long)a.answer);
+    } else {
+        print_times(year_parts, &a);
+        printf("%u %u", a.list[0], a.list[1]);
+    }
+    return 1;
+}
+
 static void ask(const char *kind)
 {
     struct asked a = {0};
+    if (ask_year(kind))
+        return;
     if (strcmp(kind, "build") == 0) {
         a.build = read_build();
         print_times(build, &a);

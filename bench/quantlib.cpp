@@ -2,6 +2,9 @@
 #include <memory>
 #include <ql/time/calendars/bespokecalendar.hpp>
 #include <ql/time/calendars/nullcalendar.hpp>
+#include <ql/time/daycounters/actual360.hpp>
+#include <ql/time/daycounters/actual365fixed.hpp>
+#include <ql/time/daycounters/thirty360.hpp>
 #include <ql/time/imm.hpp>
 #include <ql/time/schedule.hpp>
 #include <string>
@@ -105,6 +108,44 @@ static void imm_code(void *with)
     a->code = ql::IMM::code(a->day);
 }
 
+struct period {
+    ql::DayCounter basis;
+    ql::Date start, end;
+    double fraction;
+    ql::Date::serial_type days;
+};
+
+static void year_fraction(void *with)
+{
+    period *p = static_cast<period *>(with);
+    p->fraction = p->basis.yearFraction(p->start, p->end);
+}
+
+static void day_count(void *with)
+{
+    period *p = static_cast<period *>(with);
+    p->days = p->basis.dayCount(p->start, p->end);
+}
+
+static void ask_year(bool fraction)
+{
+    static const ql::DayCounter BASES[] = {ql::Actual360(), ql::Actual365Fixed(), ql::Thirty360(ql::Thirty360::European)};
+    uint8_t basis = byte();
+    period p;
+    p.basis = BASES[basis];
+    p.start = of_day(day());
+    p.end = of_day(day());
+    if (fraction) {
+        print_times(year_fraction, &p);
+        uint64_t bits;
+        memcpy(&bits, &p.fraction, sizeof bits);
+        printf("%016llx", static_cast<unsigned long long>(bits));
+    } else {
+        print_times(day_count, &p);
+        printf("%ld %d", static_cast<long>(p.days), basis == 1 ? 365 : 360);
+    }
+}
+
 static void ask_build(asked &a)
 {
     struct build b = read_build();
@@ -134,6 +175,8 @@ static void ask(const std::string &kind)
     asked a;
     if (kind == "build") {
         ask_build(a);
+    } else if (kind == "yearfraction" || kind == "yearparts") {
+        ask_year(kind == "yearfraction");
     } else if (kind == "adjust") {
         a.day = of_day(day());
         a.convention = CONVENTIONS[byte()];

@@ -5,9 +5,9 @@
  * the record of a build.
  *
  * A date is a day number: 1 is 1 January of year 1, and 0 is no date. Dates that are given lie in the book, 1901-01-01
- * (693961) to 2199-12-31 (803168); where a date is due, 0 is refused with HERONSPAN_BOOK. Results lie in 1800 to 2399.
+ * (693961) to 2199-12-31 (803168), those of year fractions in 1800 to 2399; where a date is due, 0 is refused with HERONSPAN_BOOK. Results lie in 1800 to 2399.
  *
- * A unit, a rule, a convention or a flag outside its list is refused with HERONSPAN_REQUEST, before all else but a lent list
+ * A unit, a rule, a convention, a basis or a flag outside its list is refused with HERONSPAN_REQUEST, before all else but a lent list
  * that is too short for what is always written to it (HERONSPAN_ROOM).
  *
  * A list is a pointer and the count of its elements. A list of no elements may be a null pointer. Lists that are written to
@@ -19,6 +19,7 @@
 
 #include <stddef.h>
 #include <stdint.h>
+#include <string.h>
 
 #ifdef __cplusplus
 extern "C" {
@@ -44,6 +45,7 @@ enum {
     HERONSPAN_CODE = 16,            /* no IMM code, or no IMM date */
     HERONSPAN_REQUEST = 17,         /* a number outside its list */
     HERONSPAN_NOTPLAIN = 19,        /* the coming date alone: a request that it does not answer */
+    HERONSPAN_REVERSED = 26,        /* an end before its start */
     HERONSPAN_SHORTEND = 27         /* end of month on, a positive tenor in days or weeks, and a rule other than Zero */
 };
 /* ---- made so far */
@@ -90,6 +92,13 @@ enum {
     HERONSPAN_BEFORE = 0,
     HERONSPAN_SAME = 1,
     HERONSPAN_AFTER = 2
+};
+
+/* ---- bases of a year fraction */
+enum {
+    HERONSPAN_ACTUAL_360 = 0,
+    HERONSPAN_ACTUAL_365_FIXED = 1,
+    HERONSPAN_THIRTY_E_360 = 2
 };
 
 /* The most closed dates that a calendar takes, and the most dates that a build makes. */
@@ -229,6 +238,22 @@ int64_t heronspan_coming(uint32_t effective, uint32_t termination, int32_t tenor
                          uint8_t convention, uint8_t terminal, uint8_t monthend, uint32_t first, uint32_t penultimate,
                          uint8_t mask, const uint32_t *closed, size_t closed_len, uint32_t asked);
 
+/* ---- year fractions of a period, by its paid dates. These lie from 1800 to 2399, in the book or not; others are HERONSPAN_BOOK, and
+ * a period that ends before it starts is HERONSPAN_REVERSED. Equal dates give zero. 30E/360 is that of the 2006 ISDA Definitions. */
+
+/* The fraction of a year from start to end, as the bits of a double, which are zero or more since no fraction is negative;
+ * heronspan_double makes the double. It is the numerator over the denominator, rounded once. */
+int64_t heronspan_year_fraction(uint8_t basis, uint32_t start, uint32_t end);
+
+/* 0, and the numerator and the denominator, not reduced, are written to the first two places of `parts`. Fewer places are
+ * HERONSPAN_ROOM. */
+int64_t heronspan_year_parts(uint8_t basis, uint32_t start, uint32_t end, uint32_t *parts, size_t parts_len);
+
+/* 0, and the sums of the numerators over the periods between neighbours of a list of dates are written to the first three places
+ * of `sums`, in the order of the bases. Fewer places are HERONSPAN_ROOM; a date outside 1800 to 2399 anywhere comes before a date
+ * that lies before its neighbour anywhere. No date or one has sums 0. */
+int64_t heronspan_year_report(const uint32_t *dates, size_t dates_len, uint32_t *sums, size_t sums_len);
+
 /* ---- names */
 
 /* The most bytes that the name of a refusal has. */
@@ -243,7 +268,14 @@ int64_t heronspan_refusal_text(int64_t answer, uint8_t *text, size_t text_len);
 }
 #endif
 
-/* The same name as a string; it is not proved. */
+/* The double that an answer of heronspan_year_fraction is; a refusal gives no number (NaN). It is not proved. */
+static inline double heronspan_double(int64_t answer) {
+    double value;
+    memcpy(&value, &answer, sizeof value);
+    return value;
+}
+
+/* What heronspan_refusal_text writes, as a string; it is not proved. */
 static inline const char *heronspan_refusal_name(int64_t answer) {
     switch (answer) {
     /* made by tools/refusals.py: names */
@@ -283,6 +315,8 @@ static inline const char *heronspan_refusal_name(int64_t answer) {
         return "REQUEST";
     case -HERONSPAN_NOTPLAIN:
         return "NOTPLAIN";
+    case -HERONSPAN_REVERSED:
+        return "REVERSED";
     case -HERONSPAN_SHORTEND:
         return "SHORTEND";
     /* made so far */

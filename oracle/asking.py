@@ -422,6 +422,41 @@ class Questions:
         asked = near + r.randrange(-2, 3) if r.random() < .98 else self.any_day()
         return " ".join(["coming", str(asked), *words[1:]])
 
+    def period(self):
+        """Two days of the span, mostly in order, often ends of months, near each other or equal; seldom one outside."""
+        r = self.r
+        days = [r.randrange(FIRST_OF_SPAN, LAST_OF_SPAN + 1) for _ in range(2)]
+        if r.random() < .7:
+            days[1] = min(max(days[0] + r.randrange(-3, 800), FIRST_OF_SPAN), LAST_OF_SPAN)
+        for i in range(2):
+            if r.random() < .4:
+                d = date.fromordinal(days[i])
+                days[i] = min(month_end(d.year, d.month) + r.choice((-2, -1, 0, 0, 1)), LAST_OF_SPAN)
+            if r.random() < .02:
+                days[i] = r.choice((0, FIRST_OF_SPAN - 1, FIRST_OF_SPAN, LAST_OF_SPAN, LAST_OF_SPAN + 1, 2**32 - 1))
+        return days if r.random() < .1 else sorted(days)
+
+    def yearfraction(self):
+        return "yearfraction {} {} {}".format(self.r.randrange(3), *self.period())
+
+    def yearparts(self):
+        places = 2 if self.r.random() < .9 else self.r.randrange(5)
+        return "yearparts {} {} {} {}".format(places, self.r.randrange(3), *self.period())
+
+    def yearreport(self):
+        """Mostly in order; now and then two neighbours are exchanged or a day lies outside."""
+        r = self.r
+        start = r.randrange(FIRST_OF_SPAN, LAST_OF_SPAN - 40 * 400)
+        dates = list(itertools.accumulate((r.choice((0, 1, 28, 30, 31, 91, r.randrange(400))) for _ in range(r.randrange(40))), initial=start))
+        dates = dates[:r.choice((len(dates), len(dates), r.randrange(3)))]
+        if len(dates) > 1 and r.random() < .1:
+            at = r.randrange(len(dates) - 1)
+            dates[at], dates[at + 1] = dates[at + 1], dates[at]
+        if dates and r.random() < .05:
+            dates[r.randrange(len(dates))] = r.choice((0, FIRST_OF_SPAN - 1, LAST_OF_SPAN + 1))
+        places = 3 if r.random() < .9 else r.randrange(6)
+        return " ".join(map(str, ["yearreport", places, len(dates), *dates]))
+
     def bytes(self):
         """A build as request bytes, often with something wrong in them."""
         r = self.r
@@ -456,7 +491,8 @@ class Questions:
 
 SMALL = ("next20 prev20 adjust monthend ismonthend advance immdate immcode code date nextdate nextdatecode nextcode "
          "nextcodecode dateadvance nth nextweekday dmonthend make fields difference compare times").split()
-MORE = ["open", "check", "lent", "coming", "bytes", "strange"]
+YEARS = ["yearfraction", "yearparts", "yearreport"]
+MORE = ["open", "check", "lent", "coming", "bytes", "strange", *YEARS]
 KINDS = ["build", "trace", *SMALL]
 
 

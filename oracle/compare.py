@@ -61,11 +61,11 @@ def rust(lines, timeout=None):
 
 def of_rust(line):
     """Whether the Rust can be asked: it has no lent lists, no request bytes, no calendar check, no byte outside a list. Of a coming
-    date it is asked the build, where the question is answered."""
+    date it is asked the build, where the question is answered. It has no year fractions."""
     words = line.split(None, 10)
     if words[0] == "coming":
         return not reference.answer(line).startswith("refused")
-    return words[0] not in ("lent", "bytes", "check") and not reference.outside(words)
+    return words[0] not in ("lent", "bytes", "check", *asking.YEARS) and not reference.outside(words)
 
 
 def rust_line(line):

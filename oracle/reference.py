@@ -7,6 +7,7 @@ and Heronspan.
 Reads the questions that target/oracle/ours reads and prints one answer a line: what the function gives, in the same
 words, or `refused` and the number. Dates are day numbers, 1 is 0001-01-01; Python's own calendar splits them.
 """
+import struct
 import sys
 from datetime import date as Civil
 from functools import lru_cache
@@ -21,6 +22,7 @@ FIRST_RANGE, FIRST_IMM, FIRST_RULE = 6, 7, 8
 LAST_RANGE, LAST_IMM, LAST_RULE = 9, 10, 11
 MONTHEND, CLOSED, ROOM, COLLAPSED, CODE, REQUEST = 12, 13, 14, 15, 16, 17
 NOTPLAIN = 19
+REVERSED = 26
 SHORTEND = 27
 
 ZERO, BACKWARD, FORWARD, TWENTIETH, TWENTIETH_IMM, WEDNESDAY, WEDNESDAY_ALL, OLD_CDS, CDS, CDS2015 = range(10)
@@ -420,6 +422,34 @@ class Build:
             del flags[0]
 
 
+# Year fractions: 30E/360 of the 2006 ISDA Definitions, 4.16 (g)
+
+DENOMINATORS = 360, 365, 360
+
+
+def thirties(start, end):
+    (y1, m1, d1), (y2, m2, d2) = ((d.year, d.month, 30 if d.day == 31 else d.day) for d in map(civil, (start, end)))
+    return 360 * (y2 - y1) + 30 * (m2 - m1) + d2 - d1
+
+
+def numerator(basis, start, end):
+    return thirties(start, end) if basis == 2 else end - start
+
+
+def year_parts(basis, start, end):
+    within_span(start), within_span(end)
+    need(start <= end, REVERSED)
+    return numerator(basis, start, end), DENOMINATORS[basis]
+
+
+def year_report(dates):
+    for day in dates:
+        within_span(day)
+    periods = list(zip(dates, dates[1:]))
+    need(all(a <= b for a, b in periods), REVERSED)
+    return tuple(sum(numerator(basis, a, b) for a, b in periods) for basis in range(3))
+
+
 # Questions
 
 # Where bytes that stand for something lie among a question's words, and how many such bytes there are; units are letters.
@@ -428,7 +458,7 @@ BUILD = ((3, UNIT), (5, 10), (6, 5), (7, 5), (8, 2))
 BYTES = {"build": BUILD, "trace": BUILD, "lent": tuple((at + 3, size) for at, size in BUILD),
          "coming": tuple((at + 1, size) for at, size in BUILD),
          "adjust": ((2, 5),), "advance": ((2, UNIT), (4, 5), (5, 2)), "next20": ((2, 10),), "prev20": ((2, 10),),
-         "dateadvance": ((2, UNIT),), "times": ((1, UNIT),),
+         "dateadvance": ((2, UNIT),), "times": ((1, UNIT),), "yearparts": ((2, 3),), "yearfraction": ((1, 3),),
          **{kind: ((2, 2),) for kind in "immdate immcode nextdate nextdatecode nextcode nextcodecode".split()}}
 RECORD = 6
 
@@ -624,6 +654,25 @@ def ask_compare(w):
     return (a > b) - (a < b)
 
 
+def ask_yearfraction(w):
+    """The bits of Python's own quotient of two whole numbers, which is the nearest float."""
+    above, below = year_parts(w.number(), w.number(), w.number())
+    return struct.pack(">d", above / below).hex()
+
+
+def ask_yearparts(w):
+    """Into a list of that many places, which is looked at before all else."""
+    places = w.number()
+    need(places >= 2, ROOM)
+    need(not outside(w.words), REQUEST)
+    return "{} {}".format(*year_parts(w.number(), w.number(), w.number()))
+
+
+def ask_yearreport(w):
+    need(w.number() >= 3, ROOM)
+    return "{} {} {}".format(*year_report([w.number() for _ in range(w.number())]))
+
+
 def ask_times(w):
     unit, length, count = w.word(), w.number(), w.number()
     need(-2**31 <= length * count < 2**31, TENOR)
@@ -658,6 +707,8 @@ ASK = {
     "difference": lambda w: w.book() - w.book(),
     "compare": ask_compare,
     "times": ask_times,
+    "yearfraction": ask_yearfraction,
+    "yearreport": ask_yearreport,
 }
 
 
@@ -665,8 +716,8 @@ def answer(line, room=PLACES, previous=previous_twentieth):
     w = Words(line)
     kind = w.word()
     try:
-        if kind == "lent":
-            return ask_lent(w)
+        if kind in ("lent", "yearparts"):
+            return ask_lent(w) if kind == "lent" else ask_yearparts(w)
         need(not outside(w.words), REQUEST)
         if kind == "build":
             return ask_build(w, room, previous)

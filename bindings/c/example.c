@@ -60,6 +60,15 @@ int main(void) {
     print_day(HERONSPAN_DAY(coming));
     printf("%s\n", HERONSPAN_MARK(coming) == HERONSPAN_REGULAR ? " R" : " S");
 
+    /* The year fraction of the first quarter, its two numbers, and the sums over the paid dates of the build. */
+    uint32_t parts[2], sums[3];
+    double quarter = heronspan_double(heronspan_year_fraction(HERONSPAN_ACTUAL_360, dates[0], dates[1]));
+    heronspan_year_parts(HERONSPAN_ACTUAL_360, dates[0], dates[1], parts, 2);
+    printf("fraction: %" PRIu32 "/%" PRIu32 "%s\n", parts[0], parts[1], quarter == 64.0 / 360.0 ? "" : ", and another float");
+    heronspan_year_report(dates, 5, sums, 3);
+    printf("sums: %" PRIu32 " %" PRIu32 " %" PRIu32 "\n", sums[0], sums[1], sums[2]);
+    print_refusal("reversed", heronspan_year_fraction(HERONSPAN_THIRTY_E_360, dates[1], dates[0]));
+
     /* 0 is no date: it is neither before nor after the real ones. */
     print_refusal("a missing date", heronspan_compare(0, effective));
     return same_names() ? 0 : 1;

@@ -53,4 +53,14 @@ int64_t __wrap_heronspan_coming(uint32_t effective, uint32_t termination, int32_
                                         penultimate, mask, closed, count, asked);
     return n > 0 && n % 4 == HERONSPAN_IRREGULAR && heronspan_fields(HERONSPAN_DAY(n)) % 100 == 30 ? n + 1 : n;
 }
+#elif defined FAULT_YEAR
+/* 30E/360 leaves the 31st as it is at the end of a period. */
+int64_t __real_heronspan_year_parts(uint8_t, uint32_t, uint32_t, uint32_t *, size_t);
+int64_t __wrap_heronspan_year_parts(uint8_t basis, uint32_t start, uint32_t end, uint32_t *parts, size_t count)
+{
+    int64_t n = __real_heronspan_year_parts(basis, start, end, parts, count);
+    if (n == 0 && basis == HERONSPAN_THIRTY_E_360 && heronspan_fields(end) % 100 == 31)
+        parts[0]++;
+    return n;
+}
 #endif

@@ -210,6 +210,71 @@ static void say_coming(uint32_t asked, const struct build *b)
         say("%u %d", HERONSPAN_DAY(n), HERONSPAN_MARK(n));
 }
 
+/* Year fractions: lists of that many places, with more behind them that are to stay. */
+
+enum { MOST_PLACES = 8 };
+
+static int kept_numbers(const uint32_t *list, size_t written)
+{
+    for (size_t i = written; i < MOST_PLACES; i++)
+        if (list[i] != NUMBER)
+            return 0;
+    return 1;
+}
+
+static void say_numbers(int64_t n, const uint32_t *list, size_t given)
+{
+    if (!kept_numbers(list, n < 0 ? 0 : given))
+        say("wrote elsewhere");
+    else if (n < 0)
+        say_number(n);
+    else if (n > 0)
+        say("answered %lld", (long long)n);
+    else
+        for (size_t i = 0; i < given; i++)
+            say(i ? " %u" : "%u", list[i]);
+}
+
+static size_t lent_places(uint32_t *list)
+{
+    size_t places = (size_t)number();
+    if (places >= MOST_PLACES)
+        stop("longer lists than there are");
+    for (size_t i = 0; i < MOST_PLACES; i++)
+        list[i] = NUMBER;
+    return places;
+}
+
+static int ask_year(const char *kind)
+{
+    static uint32_t days[PLACES];
+    uint32_t list[MOST_PLACES];
+    if (strcmp(kind, "yearfraction") == 0) {
+        uint8_t basis = byte();
+        uint32_t start = day();
+        int64_t n = heronspan_year_fraction(basis, start, day());
+        if (n < 0)
+            say_number(n);
+        else
+            say("%016llx", (unsigned long long)n);
+    } else if (strcmp(kind, "yearparts") == 0) {
+        size_t places = lent_places(list);
+        uint8_t basis = byte();
+        uint32_t start = day();
+        say_numbers(heronspan_year_parts(basis, start, day(), list, places), list, 2);
+    } else if (strcmp(kind, "yearreport") == 0) {
+        size_t places = lent_places(list), count = (size_t)number();
+        if (count > PLACES)
+            stop("more dates than there are places");
+        for (size_t i = 0; i < count; i++)
+            days[i] = day();
+        say_numbers(heronspan_year_report(days, count, list, places), list, 3);
+    } else {
+        return 0;
+    }
+    return 1;
+}
+
 static int is(const char *kind, const char *name)
 {
     return strcmp(kind, name) == 0;
@@ -359,7 +424,7 @@ int main(void)
     setvbuf(stdout, output, _IOFBF, sizeof output);
     while (next_line()) {
         char *kind = word();
-        if (!ask_schedule(kind) && !ask_date(kind) && !ask_calendar(kind) && !ask_cycle(kind))
+        if (!ask_schedule(kind) && !ask_date(kind) && !ask_calendar(kind) && !ask_cycle(kind) && !ask_year(kind))
             stop("no such question");
         end();
         putchar('\n');

@@ -11,17 +11,19 @@ from __future__ import annotations
 
 import ctypes
 import os
+import struct
 from dataclasses import dataclass
 from datetime import date
 from enum import IntEnum
+from fractions import Fraction
 from pathlib import Path
 from typing import Iterable, Optional, Sequence
 
 __all__ = [
-    "Calendar", "Coming", "Convention", "Order", "Refusal", "Refused", "Rule", "Schedule", "Unit", "WEEKENDS", "advance", "build",
+    "Basis", "Calendar", "Coming", "Convention", "Order", "Parts", "Refusal", "Refused", "Rule", "Schedule", "Sums", "Unit", "WEEKENDS", "advance", "build",
     "build_bytes", "coming", "compare", "difference", "imm_code", "imm_date", "is_imm_code", "is_imm_date", "make", "month_end", "next_imm_code",
     "next_imm_date", "next_twentieth", "next_weekday", "nth_weekday", "previous_twentieth", "refusal_name", "times",
-    "weekday",
+    "weekday", "year_fraction", "year_parts", "year_report",
 ]
 
 
@@ -45,6 +47,7 @@ class Refusal(IntEnum):
     CODE = 16  # no IMM code, or no IMM date
     REQUEST = 17  # a number outside its list
     NOTPLAIN = 19  # the coming date alone: a request that it does not answer
+    REVERSED = 26  # an end before its start
     SHORTEND = 27  # end of month on, a positive tenor in days or weeks, and a rule other than Zero
     # made so far
 
@@ -81,6 +84,12 @@ class Order(IntEnum):
     BEFORE = 0
     SAME = 1
     AFTER = 2
+
+
+class Basis(IntEnum):
+    ACTUAL_360 = 0
+    ACTUAL_365_FIXED = 1
+    THIRTY_E_360 = 2
 
 
 class Refused(Exception):
@@ -134,6 +143,9 @@ _PARAMETERS = {
     "build": [*_request, *_days, *_flags, *_days],
     "coming": [*_request, _u32],
     "build_bytes": [*_bytes, *_days, *_flags, *_days],
+    "year_fraction": [_u8, _u32, _u32],
+    "year_parts": [_u8, _u32, _u32, *_days],
+    "year_report": [*_days, *_days],
     "refusal_text": [_i64, *_flags],
 }
 
@@ -345,6 +357,51 @@ def previous_twentieth(day: Optional[date], rule: Rule) -> date:
     return _date(_ask("previous_twentieth", _number(day), _byte(rule)))
 
 
+# ---- year fractions
+
+
+@dataclass(frozen=True)
+class Parts:
+    """Numerator and denominator of a year fraction, not reduced."""
+
+    numerator: int
+    denominator: int
+
+    @property
+    def fraction(self) -> Fraction:
+        """The same number, reduced, as Python has it."""
+        return Fraction(self.numerator, self.denominator)
+
+
+@dataclass(frozen=True)
+class Sums:
+    """Sums of numerators over the periods of a list of dates, one for each basis."""
+
+    actual_360: int
+    actual_365_fixed: int
+    thirty_e_360: int
+
+
+def year_fraction(basis: Basis, start: Optional[date], end: Optional[date]) -> float:
+    """The fraction of a year from start to end, paid dates from 1800 to 2399: the numerator over the denominator, rounded once."""
+    bits = _ask("year_fraction", _byte(basis), _number(start), _number(end))
+    return struct.unpack("<d", struct.pack("<q", bits))[0]
+
+
+def year_parts(basis: Basis, start: Optional[date], end: Optional[date]) -> Parts:
+    """The same by its numerator and its denominator."""
+    parts = (_u32 * 2)()
+    _ask("year_parts", _byte(basis), _number(start), _number(end), parts, 2)
+    return Parts(*parts)
+
+
+def year_report(dates: Iterable[Optional[date]]) -> Sums:
+    """The sums of the numerators over the periods between neighbours of a list of dates."""
+    sums = (_u32 * 3)()
+    _ask("year_report", *_list([_number(day) for day in dates]), sums, 3)
+    return Sums(*sums)
+
+
 # ---- schedules
 
 
@@ -358,6 +415,18 @@ class Schedule:
     rule: Rule
     tenor: int
     unit: Unit
+
+    def year_fractions(self, basis: Basis) -> list[float]:
+        """The year fraction of each period, on the paid dates."""
+        return [year_fraction(basis, a, b) for a, b in zip(self.dates, self.dates[1:])]
+
+    def year_parts(self, basis: Basis) -> list[Parts]:
+        """The same by numerator and denominator."""
+        return [year_parts(basis, a, b) for a, b in zip(self.dates, self.dates[1:])]
+
+    def year_report(self) -> Sums:
+        """The sums of the numerators over the periods, for each basis."""
+        return year_report(self.dates)
 
 
 def build(

@@ -3,9 +3,10 @@
 import ctypes
 import unittest
 from datetime import date
+from fractions import Fraction
 
 import heronspan as h
-from heronspan import Convention, Order, Rule, Unit
+from heronspan import Basis, Convention, Order, Rule, Unit
 
 
 def days(*texts: str) -> list[date]:
@@ -222,6 +223,58 @@ class Schedules(Refusals):
         self.assertEqual(h.previous_twentieth(date(2025, 3, 20), Rule.CDS), date(2025, 3, 20))
         self.assertEqual(h.previous_twentieth(date(2025, 3, 19), Rule.CDS), date(2024, 12, 20))
         self.assertEqual(h.previous_twentieth(date(1901, 1, 1), Rule.TWENTIETH_IMM), date(1900, 12, 20))
+
+
+class YearFractions(Refusals):
+    def test_parts(self) -> None:
+        def parts(basis: Basis, start: str, end: str) -> tuple[int, int]:
+            given = h.year_parts(basis, *days(start, end))
+            return given.numerator, given.denominator
+
+        thirty = Basis.THIRTY_E_360
+        self.assertEqual(parts(thirty, "2025-02-28", "2025-03-31"), (32, 360))
+        self.assertEqual(parts(thirty, "2025-02-28", "2025-03-01"), (3, 360))
+        self.assertEqual(parts(thirty, "2025-01-31", "2025-02-28"), (28, 360))
+        self.assertEqual(parts(thirty, "2025-01-29", "2025-03-31"), (61, 360))
+        self.assertEqual(parts(thirty, "2025-01-30", "2025-01-31"), (0, 360))
+        self.assertEqual(parts(Basis.ACTUAL_360, "2025-01-15", "2025-04-15"), (90, 360))
+        self.assertEqual(parts(Basis.ACTUAL_365_FIXED, "2025-01-15", "2025-01-15"), (0, 365))
+        self.assertEqual(parts(Basis.ACTUAL_360, "1800-01-01", "1901-01-01"), (36889, 360))
+        self.assertEqual(h.year_parts(Basis.ACTUAL_360, *days("2025-01-15", "2025-04-15")).fraction, Fraction(1, 4))
+
+    def test_floats_are_one_division(self) -> None:
+        self.assertEqual(h.year_fraction(Basis.ACTUAL_360, *days("2025-01-15", "2025-04-15")), 0.25)
+        self.assertEqual(h.year_fraction(Basis.ACTUAL_360, *days("2025-01-01", "2025-01-06")).hex(), (5 / 360).hex())
+        self.assertEqual(h.year_fraction(Basis.ACTUAL_365_FIXED, *days("2025-01-01", "2025-01-04")).hex(), (3 / 365).hex())
+        self.assertEqual(h.year_fraction(Basis.ACTUAL_360, *days("2025-01-15", "2025-01-15")).hex(), (0.0).hex())
+
+    def test_refused(self) -> None:
+        for call in (h.year_fraction, h.year_parts):
+            self.refused("REVERSED", call, Basis.THIRTY_E_360, *days("2025-01-31", "2025-01-30"))
+            self.refused("BOOK", call, Basis.ACTUAL_360, date(2025, 1, 1), None)
+            self.refused("BOOK", call, Basis.ACTUAL_360, *days("1799-12-31", "2025-01-01"))
+            self.refused("REQUEST", call, 3, None, None)
+        self.refused("BOOK", h.year_report, [date(2025, 1, 10), date(2025, 1, 9), None])
+        self.refused("REVERSED", h.year_report, days("2025-01-01", "2025-03-01", "2025-02-01", "2025-06-01"))
+
+    def test_a_short_list_comes_first_and_stays(self) -> None:
+        lent = (ctypes.c_uint32 * 3)(7, 8, 9)
+        library = h._library
+        self.assertEqual(library.heronspan_year_parts(9, 0, 0, lent, 1), -h.Refusal.ROOM)
+        self.assertEqual(library.heronspan_year_report(lent, 1, lent, 2), -h.Refusal.ROOM)
+        self.assertEqual(library.heronspan_year_parts(9, 0, 0, lent, 2), -h.Refusal.REQUEST)
+        self.assertEqual(library.heronspan_year_parts(0, 739282, 739281, lent, 2), -h.Refusal.REVERSED)
+        self.assertEqual(list(lent), [7, 8, 9])
+        self.assertEqual(library.heronspan_year_parts(0, 739281, 739282, lent, 3), 0)
+        self.assertEqual(list(lent), [1, 360, 9])
+
+    def test_over_a_schedule(self) -> None:
+        built = h.build(date(2025, 1, 15), date(2025, 12, 20), 3, Unit.MONTHS)
+        self.assertEqual(built.year_report(), h.Sums(339, 339, 335))
+        self.assertEqual(built.year_fractions(Basis.ACTUAL_360), [n / 360 for n in (64, 92, 92, 91)])
+        self.assertEqual(sum(parts.fraction for parts in built.year_parts(Basis.THIRTY_E_360)), Fraction(335, 360))
+        self.assertEqual(h.year_report([]), h.Sums(0, 0, 0))
+        self.assertEqual(h.year_report(days("2025-01-31", "2025-02-28", "2025-02-28", "2025-03-31")), h.Sums(59, 59, 60))
 
 
 if __name__ == "__main__":

@@ -82,5 +82,8 @@ extern "C" {
         answer: *mut u32,
         answer_len: usize,
     ) -> i64;
+    pub fn heronspan_year_fraction(basis: u8, start: u32, end: u32) -> i64;
+    pub fn heronspan_year_parts(basis: u8, start: u32, end: u32, parts: *mut u32, parts_len: usize) -> i64;
+    pub fn heronspan_year_report(dates: *const u32, dates_len: usize, sums: *mut u32, sums_len: usize) -> i64;
     pub fn heronspan_refusal_text(answer: i64, text: *mut u8, text_len: usize) -> i64;
 }

@@ -49,13 +49,15 @@ pub enum Refusal {
     Request = 17,
     /// The coming date alone: a request that it does not answer.
     Notplain = 19,
+    /// An end before its start.
+    Reversed = 26,
     /// End of month on, a positive tenor in days or weeks, and a rule other than Zero.
     Shortend = 27,
     // made so far
 }
 
 // made by tools/refusals.py: names
-const REFUSALS: [(Refusal, &str); 19] = [
+const REFUSALS: [(Refusal, &str); 20] = [
     (Refusal::Uneven, "UNEVEN"),
     (Refusal::Book, "BOOK"),
     (Refusal::Calendar, "CALENDAR"),
@@ -74,6 +76,7 @@ const REFUSALS: [(Refusal, &str); 19] = [
     (Refusal::Code, "CODE"),
     (Refusal::Request, "REQUEST"),
     (Refusal::Notplain, "NOTPLAIN"),
+    (Refusal::Reversed, "REVERSED"),
     (Refusal::Shortend, "SHORTEND"),
 ];
 // made so far
@@ -514,7 +517,56 @@ impl Request {
     }
 }
 
+/// How the days of a period and of a year are counted.
+#[derive(Clone, Copy, Debug, PartialEq, Eq, Hash)]
+#[repr(u8)]
+pub enum Basis {
+    Actual360,
+    Actual365Fixed,
+    ThirtyE360,
+}
+
+/// Numerator and denominator of a year fraction, not reduced.
+#[derive(Clone, Copy, Debug, PartialEq, Eq, Hash)]
+pub struct Parts {
+    pub numerator: u32,
+    pub denominator: u32,
+}
+
+/// Sums of numerators over the periods of a list of dates, one for each basis.
+#[derive(Clone, Copy, Debug, PartialEq, Eq, Hash)]
+pub struct Sums {
+    pub actual360: u32,
+    pub actual365_fixed: u32,
+    pub thirty_e360: u32,
+}
+
+/// The fraction of a year from start to end, paid dates from 1800 to 2399: the numerator over the denominator, rounded once.
+pub fn year_fraction(basis: Basis, start: Date, end: Date) -> Answer<f64> {
+    told(unsafe { ffi::heronspan_year_fraction(basis as u8, start.0, end.0) }).map(|bits| f64::from_bits(bits as u64))
+}
+
+/// The same by its numerator and its denominator.
+pub fn year_parts(basis: Basis, start: Date, end: Date) -> Answer<Parts> {
+    let mut parts = [0; 2];
+    told(unsafe { ffi::heronspan_year_parts(basis as u8, start.0, end.0, parts.as_mut_ptr(), parts.len()) })?;
+    Ok(Parts { numerator: parts[0], denominator: parts[1] })
+}
+
+/// The sums of the numerators over the periods between neighbours of a list of dates.
+pub fn year_report(dates: &[Date]) -> Answer<Sums> {
+    let days: Vec<u32> = dates.iter().map(|date| date.0).collect();
+    let mut sums = [0; 3];
+    told(unsafe { ffi::heronspan_year_report(days.as_ptr(), days.len(), sums.as_mut_ptr(), sums.len()) })?;
+    Ok(Sums { actual360: sums[0], actual365_fixed: sums[1], thirty_e360: sums[2] })
+}
+
 impl Schedule {
+    /// The year fraction of each period, on the paid dates.
+    pub fn year_fractions(&self, basis: Basis) -> Answer<Vec<f64>> {
+        self.dates.windows(2).map(|period| year_fraction(basis, period[0], period[1])).collect()
+    }
+
     /// The schedule that the bytes of a request ask for, with room for `room` dates.
     pub fn from_bytes(bytes: &[u8], room: usize) -> Answer<Schedule> {
         Schedule::lent(room, |dates, flags, record| unsafe {

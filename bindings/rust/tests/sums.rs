@@ -1,5 +1,5 @@
 //! Sums by hand of document 01, and what is refused.
-use heronspan::{imm, times, Calendar, Coming, Convention, Date, Refusal, Request, Rule, Schedule, Unit};
+use heronspan::{imm, times, year_fraction, year_parts, year_report, Basis, Calendar, Coming, Convention, Date, Parts, Refusal, Request, Rule, Schedule, Sums, Unit};
 use std::cmp::Ordering;
 
 fn day(year: u32, month: u32, day: u32) -> Date {
@@ -110,6 +110,26 @@ fn twentieths() {
     assert_eq!(day(2025, 4, 25).next_twentieth(Rule::Cds), Ok(day(2025, 6, 20)));
     assert_eq!(day(2025, 4, 25).previous_twentieth(Rule::Twentieth), Ok(day(2025, 4, 20)));
     assert_eq!(day(2025, 4, 25).previous_twentieth(Rule::Cds), Ok(day(2025, 3, 20)));
+}
+
+#[test]
+fn year_fractions() {
+    let parts = |basis, start, end| year_parts(basis, start, end).map(|p| (p.numerator, p.denominator));
+    assert_eq!(parts(Basis::ThirtyE360, day(2025, 2, 28), day(2025, 3, 31)), Ok((32, 360)));
+    assert_eq!(parts(Basis::ThirtyE360, day(2025, 1, 29), day(2025, 3, 31)), Ok((61, 360)));
+    assert_eq!(year_parts(Basis::Actual360, day(2025, 1, 15), day(2025, 4, 15)), Ok(Parts { numerator: 90, denominator: 360 }));
+    assert_eq!(year_fraction(Basis::Actual360, day(2025, 1, 15), day(2025, 4, 15)), Ok(0.25));
+    assert_eq!(year_fraction(Basis::Actual360, day(2025, 1, 1), day(2025, 1, 6)).map(f64::to_bits), Ok(0x3f8c71c71c71c71c));
+    assert_eq!(year_fraction(Basis::Actual365Fixed, day(2024, 1, 1), day(2025, 1, 1)).map(f64::to_bits), Ok(0x3ff00b38cf9b00b4));
+    assert_eq!(year_fraction(Basis::ThirtyE360, day(2025, 1, 31), day(2025, 1, 30)), Err(Refusal::Reversed));
+    assert_eq!(year_fraction(Basis::Actual360, Date::NONE, day(2025, 1, 1)), Err(Refusal::Book));
+    assert_eq!(parts(Basis::Actual360, Date(657_072), Date(693_961)), Ok((36_889, 360)));
+    let built = quarterly().build().unwrap();
+    assert_eq!(year_report(&built.dates), Ok(Sums { actual360: 339, actual365_fixed: 339, thirty_e360: 335 }));
+    assert_eq!(built.year_fractions(Basis::Actual360), Ok([64, 92, 92, 91].map(|days| f64::from(days) / 360.0).to_vec()));
+    assert_eq!(year_report(&[]), Ok(Sums { actual360: 0, actual365_fixed: 0, thirty_e360: 0 }));
+    assert_eq!(year_report(&[day(2025, 1, 10), day(2025, 1, 9)]), Err(Refusal::Reversed));
+    assert_eq!(year_report(&[day(2025, 1, 10), day(2025, 1, 9), Date::NONE]), Err(Refusal::Book));
 }
 
 #[test]

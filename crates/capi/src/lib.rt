@@ -13,3 +13,5 @@ pub mod cycles;
 pub mod counts;
 // Names of refusals.
 pub mod refusals;
+// Year fractions.
+pub mod years;

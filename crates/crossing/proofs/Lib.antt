@@ -2,3 +2,4 @@ pub mod Counting
 pub mod Places
 pub mod Naming
 pub mod Marks
+pub mod Laying

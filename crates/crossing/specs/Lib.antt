@@ -2,5 +2,6 @@ pub mod Answers
 pub mod Numbers
 pub mod Requests
 pub mod Names
+pub mod Years
 pub mod Laws
 pub mod Sums

@@ -14,6 +14,8 @@ pub mod counts;
 pub mod names;
 // Requests.
 pub mod requests;
+// Year fractions.
+pub mod years;
 
 pub enum NamedUnit {
     Is(Unit),

@@ -62,6 +62,9 @@ REQUEST = 17
 abbrev pub NOTPLAIN : ℕ
 NOTPLAIN = 19
 
+abbrev pub REVERSED : ℕ
+REVERSED = 26
+
 abbrev pub SHORTEND : ℕ
 SHORTEND = 27
 

@@ -39,6 +39,8 @@ pub const REQUEST: u8 = 17;
 
 pub const NOTPLAIN: u8 = 19;
 
+pub const REVERSED: u8 = 26;
+
 pub const SHORTEND: u8 = 27;
 // ---- made so far
 
@@ -46,7 +48,7 @@ pub const SHORTEND: u8 = 27;
 pub struct NameRow(pub u8, pub usize, pub [u8; 16]);
 
 // ---- made by tools/refusals.py: rows
-pub const ROWS: [NameRow; 19] = [
+pub const ROWS: [NameRow; 20] = [
     NameRow(UNEVEN, 6, *b"UNEVEN          "),
     NameRow(BOOK, 4, *b"BOOK            "),
     NameRow(CALENDAR, 8, *b"CALENDAR        "),
@@ -65,6 +67,7 @@ pub const ROWS: [NameRow; 19] = [
     NameRow(CODE, 4, *b"CODE            "),
     NameRow(REQUEST, 7, *b"REQUEST         "),
     NameRow(NOTPLAIN, 8, *b"NOTPLAIN        "),
+    NameRow(REVERSED, 8, *b"REVERSED        "),
     NameRow(SHORTEND, 8, *b"SHORTEND        "),
 ];
 // ---- made so far
