@@ -37,6 +37,8 @@ pub const CODE: u8 = 16;
 
 pub const REQUEST: u8 = 17;
 
+pub const BUFFER: u8 = 18;
+
 pub const NOTPLAIN: u8 = 19;
 
 pub const SHORTEND: u8 = 27;
@@ -46,7 +48,7 @@ pub const SHORTEND: u8 = 27;
 pub struct Row(pub u8, pub usize, pub [u8; 16]);
 
 // ---- made by tools/refusals.py: rows
-pub const ROWS: [Row; 19] = [
+pub const ROWS: [Row; 20] = [
     Row(UNEVEN, 6, *b"UNEVEN          "),
     Row(BOOK, 4, *b"BOOK            "),
     Row(CALENDAR, 8, *b"CALENDAR        "),
@@ -64,6 +66,7 @@ pub const ROWS: [Row; 19] = [
     Row(COLLAPSED, 9, *b"COLLAPSED       "),
     Row(CODE, 4, *b"CODE            "),
     Row(REQUEST, 7, *b"REQUEST         "),
+    Row(BUFFER, 6, *b"BUFFER          "),
     Row(NOTPLAIN, 8, *b"NOTPLAIN        "),
     Row(SHORTEND, 8, *b"SHORTEND        "),
 ];

@@ -4,4 +4,6 @@ pub mod Laws
 pub mod Encode
 pub mod Inner
 pub mod Decode
+pub mod Promise
+pub mod Stored
 pub mod Sums
