@@ -44,6 +44,7 @@ enum {
     HERONSPAN_COLLAPSED = 15,       /* the end merge leaves two dates, the second not after the first */
     HERONSPAN_CODE = 16,            /* no IMM code, or no IMM date */
     HERONSPAN_REQUEST = 17,         /* a number outside its list */
+    HERONSPAN_BUFFER = 18,          /* the lent buffer is shorter than 20,000 bytes */
     HERONSPAN_NOTPLAIN = 19,        /* the coming date alone: a request that it does not answer */
     HERONSPAN_REVERSED = 26,        /* an end before its start */
     HERONSPAN_SHORTEND = 27         /* end of month on, a positive tenor in days or weeks, and a rule other than Zero */
@@ -254,6 +255,51 @@ int64_t heronspan_year_parts(uint8_t basis, uint32_t start, uint32_t end, uint32
  * that lies before its neighbour anywhere. No date or one has sums 0. */
 int64_t heronspan_year_report(const uint32_t *dates, size_t dates_len, uint32_t *sums, size_t sums_len);
 
+/* ---- requests off the wire */
+
+/* A reader that is fed the bytes of a request one part at a time, in any cuts, empty parts too. What it stands at between two calls
+ * is its own; the numbers of a request that a finish found stand in `request`. heronspan_reset makes it a new one. */
+typedef struct heronspan_reader {
+    uint16_t state[19];
+    uint32_t request[13];
+} heronspan_reader;
+
+/* Places of a request's numbers; they are those that heronspan_build takes. */
+enum {
+    HERONSPAN_ASKED_EFFECTIVE = 0,
+    HERONSPAN_ASKED_TERMINATION = 1,
+    HERONSPAN_ASKED_SIZE = 2, /* of the tenor's length */
+    HERONSPAN_ASKED_BACK = 3, /* 1 where that length is below 0 */
+    HERONSPAN_ASKED_UNIT = 4,
+    HERONSPAN_ASKED_RULE = 5,
+    HERONSPAN_ASKED_CONVENTION = 6,
+    HERONSPAN_ASKED_TERMINAL = 7,
+    HERONSPAN_ASKED_MONTHEND = 8,
+    HERONSPAN_ASKED_FIRST = 9,
+    HERONSPAN_ASKED_PENULTIMATE = 10,
+    HERONSPAN_ASKED_MASK = 11,
+    HERONSPAN_ASKED_CLOSED = 12 /* how many closed dates stand in the lent list */
+};
+
+/* The bytes that a reader's buffer has at least. */
+#define HERONSPAN_WIRE 20000
+
+/* Makes the reader a new one, whatever it was. Answers 0. */
+int64_t heronspan_reset(heronspan_reader *reader);
+
+/* Takes in a part and answers 0, to go on. Each byte of a body goes to its place in the buffer: the bodies lie back to back at its
+ * start, framed by their lengths alone until the field FF has ended or 20,000 bytes were fed, and other places keep what they held. A
+ * buffer of fewer than HERONSPAN_WIRE bytes is HERONSPAN_BUFFER, before all else; nothing was taken and nothing changes. Once the request
+ * was declared finished, the part is not read and the finish's answer is repeated, until a reset. */
+int64_t heronspan_feed(heronspan_reader *reader, const uint8_t *part, size_t part_len, uint8_t *buffer, size_t buffer_len,
+                       uint32_t *closed, size_t closed_len);
+
+/* Declares the request finished: 1 where all that was fed since the reset is a request, and its numbers stand in the reader, its
+ * closed dates at the start of `closed`. Bytes that are none are HERONSPAN_REQUEST; a list too short for the closed dates is
+ * HERONSPAN_ROOM, and a later call with a longer one gets them. The buffer is the one that was fed, untouched by others. */
+int64_t heronspan_finish(heronspan_reader *reader, const uint8_t *buffer, size_t buffer_len, uint32_t *closed,
+                         size_t closed_len);
+
 /* ---- names */
 
 /* The most bytes that the name of a refusal has. */
@@ -313,6 +359,8 @@ static inline const char *heronspan_refusal_name(int64_t answer) {
         return "CODE";
     case -HERONSPAN_REQUEST:
         return "REQUEST";
+    case -HERONSPAN_BUFFER:
+        return "BUFFER";
     case -HERONSPAN_NOTPLAIN:
         return "NOTPLAIN";
     case -HERONSPAN_REVERSED:

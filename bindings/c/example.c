@@ -69,6 +69,20 @@ int main(void) {
     printf("sums: %" PRIu32 " %" PRIu32 " %" PRIu32 "\n", sums[0], sums[1], sums[2]);
     print_refusal("reversed", heronspan_year_fraction(HERONSPAN_THIRTY_E_360, dates[1], dates[0]));
 
+    /* A request that comes in two parts. */
+    static const uint8_t bytes[] = {1, 0, 4, 0, 11, 67, 108, 2, 0, 4, 0, 11, 68, 3, 255, 0, 0};
+    static uint8_t wire[HERONSPAN_WIRE];
+    static uint32_t closed[HERONSPAN_MOST];
+    heronspan_reader reader;
+    heronspan_reset(&reader);
+    heronspan_feed(&reader, bytes, 9, wire, sizeof wire, closed, HERONSPAN_MOST);
+    heronspan_feed(&reader, bytes + 9, sizeof bytes - 9, wire, sizeof wire, closed, HERONSPAN_MOST);
+    if (heronspan_finish(&reader, wire, sizeof wire, closed, HERONSPAN_MOST) != 1)
+        return 1;
+    printf("in parts: ");
+    print_day(reader.request[HERONSPAN_ASKED_EFFECTIVE]);
+    printf("\n");
+
     /* 0 is no date: it is neither before nor after the real ones. */
     print_refusal("a missing date", heronspan_compare(0, effective));
     return same_names() ? 0 : 1;

@@ -20,7 +20,8 @@ from pathlib import Path
 from typing import Iterable, Optional, Sequence
 
 __all__ = [
-    "Basis", "Calendar", "Coming", "Convention", "Order", "Parts", "Refusal", "Refused", "Rule", "Schedule", "Sums", "Unit", "WEEKENDS", "advance", "build",
+    "Basis", "Calendar", "Coming", "Convention", "Order", "Parts", "Reader", "Refusal", "Refused", "Request", "Rule", "Schedule", "Sums", "Unit",
+    "WEEKENDS", "advance", "build",
     "build_bytes", "coming", "compare", "difference", "imm_code", "imm_date", "is_imm_code", "is_imm_date", "make", "month_end", "next_imm_code",
     "next_imm_date", "next_twentieth", "next_weekday", "nth_weekday", "previous_twentieth", "refusal_name", "times",
     "weekday", "year_fraction", "year_parts", "year_report",
@@ -46,6 +47,7 @@ class Refusal(IntEnum):
     COLLAPSED = 15  # the end merge leaves two dates, the second not after the first
     CODE = 16  # no IMM code, or no IMM date
     REQUEST = 17  # a number outside its list
+    BUFFER = 18  # the lent buffer is shorter than 20,000 bytes
     NOTPLAIN = 19  # the coming date alone: a request that it does not answer
     REVERSED = 26  # an end before its start
     SHORTEND = 27  # end of month on, a positive tenor in days or weeks, and a rule other than Zero
@@ -146,6 +148,9 @@ _PARAMETERS = {
     "year_fraction": [_u8, _u32, _u32],
     "year_parts": [_u8, _u32, _u32, *_days],
     "year_report": [*_days, *_days],
+    "reset": [ctypes.c_void_p],
+    "feed": [ctypes.c_void_p, *_bytes, *_flags, *_days],
+    "finish": [ctypes.c_void_p, *_flags, *_days],
     "refusal_text": [_i64, *_flags],
 }
 
@@ -482,6 +487,87 @@ def coming(
 def build_bytes(request: bytes, room: int = MOST) -> Schedule:
     """Builds the schedule that the bytes of a request ask for."""
     return _built("build_bytes", room, request, len(request))
+
+
+# ---- requests off the wire
+
+
+@dataclass(frozen=True)
+class Request:
+    """What the bytes of a request ask for: day numbers as they came, and the closed dates. `build` makes its schedule."""
+
+    effective: int
+    termination: int
+    tenor: int
+    unit: Unit
+    rule: Rule
+    convention: Convention
+    terminal: Convention
+    monthend: bool
+    first: int
+    penultimate: int
+    mask: int
+    closed: tuple[int, ...]
+
+    def build(self, room: int = MOST) -> Schedule:
+        choices = (self.tenor, self.unit, self.rule, self.convention, self.terminal, int(self.monthend))
+        anchors = (self.first, self.penultimate)
+        return _built("build", room, self.effective, self.termination, *choices, *anchors, self.mask, *_list(self.closed))
+
+
+class _Reader(ctypes.Structure):
+    _fields_ = [("state", ctypes.c_uint16 * 19), ("request", _u32 * 13)]
+
+
+class Reader:
+    """Reads a request that comes in parts, in any cuts: `feed` each, then `finish`, which answers as the whole would.
+
+    Once finished, each call repeats the answer until `reset`. `buffer` holds the bodies of the fields, back to back.
+    """
+
+    def __init__(self, buffer: int = 20_000, closed: int = MOST) -> None:
+        self._reader = _Reader()
+        self.buffer = (_u8 * buffer)()
+        self._closed = (_u32 * closed)()
+        self.reset()
+
+    def reset(self) -> None:
+        _ask("reset", ctypes.byref(self._reader))
+
+    def feed(self, part: bytes) -> Optional[Request]:
+        """None is "go on"; after the finish, the request that it found."""
+        lent = (self.buffer, len(self.buffer), self._closed, len(self._closed))
+        return self._said(_ask("feed", ctypes.byref(self._reader), bytes(part), len(part), *lent))
+
+    def finish(self) -> Request:
+        lent = (self.buffer, len(self.buffer), self._closed, len(self._closed))
+        return self._said(_ask("finish", ctypes.byref(self._reader), *lent))
+
+    def read(self, source, most: int = 4096) -> Request:
+        """Feeds all that a socket or a binary file has, and finishes."""
+        take = source.recv if hasattr(source, "recv") else source.read
+        while part := take(most):
+            self.feed(part)
+        return self.finish()
+
+    def _said(self, answer: int) -> Optional[Request]:
+        if answer == 0:
+            return None
+        effective, termination, size, back, unit, rule, convention, terminal, monthend, first, penultimate, mask, count = self._reader.request
+        return Request(
+            effective=effective,
+            termination=termination,
+            tenor=-size if back else size,
+            unit=Unit(unit),
+            rule=Rule(rule),
+            convention=Convention(convention),
+            terminal=Convention(terminal),
+            monthend=monthend == 1,
+            first=first,
+            penultimate=penultimate,
+            mask=mask,
+            closed=tuple(self._closed[:count]),
+        )
 
 
 def _asked(effective, termination, tenor, unit, rule, convention, terminal, monthend, first, penultimate, calendar) -> tuple:

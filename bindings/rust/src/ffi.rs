@@ -1,4 +1,10 @@
 //! The functions of include/heronspan.h.
+#[repr(C)]
+pub struct Reader {
+    pub state: [u16; 19],
+    pub request: [u32; 13],
+}
+
 extern "C" {
     pub fn heronspan_make(year: u32, month: u32, day: u32) -> i64;
     pub fn heronspan_fields(day: u32) -> i64;
@@ -85,5 +91,22 @@ extern "C" {
     pub fn heronspan_year_fraction(basis: u8, start: u32, end: u32) -> i64;
     pub fn heronspan_year_parts(basis: u8, start: u32, end: u32, parts: *mut u32, parts_len: usize) -> i64;
     pub fn heronspan_year_report(dates: *const u32, dates_len: usize, sums: *mut u32, sums_len: usize) -> i64;
+    pub fn heronspan_reset(reader: *mut Reader) -> i64;
+    pub fn heronspan_feed(
+        reader: *mut Reader,
+        part: *const u8,
+        part_len: usize,
+        buffer: *mut u8,
+        buffer_len: usize,
+        closed: *mut u32,
+        closed_len: usize,
+    ) -> i64;
+    pub fn heronspan_finish(
+        reader: *mut Reader,
+        buffer: *const u8,
+        buffer_len: usize,
+        closed: *mut u32,
+        closed_len: usize,
+    ) -> i64;
     pub fn heronspan_refusal_text(answer: i64, text: *mut u8, text_len: usize) -> i64;
 }

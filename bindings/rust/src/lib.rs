@@ -7,6 +7,7 @@ mod ffi;
 
 use std::cmp::Ordering;
 use std::fmt;
+use std::io;
 
 /// Why a call was refused, by the numbers of document 01's table.
 #[derive(Clone, Copy, Debug, PartialEq, Eq, Hash)]
@@ -47,6 +48,8 @@ pub enum Refusal {
     Code = 16,
     /// A number outside its list.
     Request = 17,
+    /// The lent buffer is shorter than 20,000 bytes.
+    Buffer = 18,
     /// The coming date alone: a request that it does not answer.
     Notplain = 19,
     /// An end before its start.
@@ -57,7 +60,7 @@ pub enum Refusal {
 }
 
 // made by tools/refusals.py: names
-const REFUSALS: [(Refusal, &str); 20] = [
+const REFUSALS: [(Refusal, &str); 21] = [
     (Refusal::Uneven, "UNEVEN"),
     (Refusal::Book, "BOOK"),
     (Refusal::Calendar, "CALENDAR"),
@@ -75,6 +78,7 @@ const REFUSALS: [(Refusal, &str); 20] = [
     (Refusal::Collapsed, "COLLAPSED"),
     (Refusal::Code, "CODE"),
     (Refusal::Request, "REQUEST"),
+    (Refusal::Buffer, "BUFFER"),
     (Refusal::Notplain, "NOTPLAIN"),
     (Refusal::Reversed, "REVERSED"),
     (Refusal::Shortend, "SHORTEND"),
@@ -597,6 +601,108 @@ impl Schedule {
             tenor: record[4],
             unit: UNITS[record[5] as usize],
         })
+    }
+}
+
+const CONVENTIONS: [Convention; 5] = [
+    Convention::Unadjusted,
+    Convention::Following,
+    Convention::ModifiedFollowing,
+    Convention::Preceding,
+    Convention::ModifiedPreceding,
+];
+
+/// Reads a request that comes in parts, in any cuts: [`Reader::feed`] each, then [`Reader::finish`], which answers as the whole would.
+/// Once finished, each call repeats the answer until [`Reader::reset`].
+pub struct Reader {
+    raw: ffi::Reader,
+    buffer: Vec<u8>,
+    closed: Vec<u32>,
+}
+
+impl Default for Reader {
+    fn default() -> Reader {
+        Reader::new()
+    }
+}
+
+impl Reader {
+    pub fn new() -> Reader {
+        let raw = ffi::Reader { state: [0; 19], request: [0; 13] };
+        let mut reader = Reader { raw, buffer: vec![0; 20_000], closed: vec![0; Request::MOST] };
+        reader.reset();
+        reader
+    }
+
+    pub fn reset(&mut self) {
+        unsafe { ffi::heronspan_reset(&mut self.raw) };
+    }
+
+    /// The bodies of the fields, back to back at the start.
+    pub fn buffer(&self) -> &[u8] {
+        &self.buffer
+    }
+
+    /// None is "go on"; after the finish, the request that it found.
+    pub fn feed(&mut self, part: &[u8]) -> Answer<Option<Request>> {
+        let answer = told(unsafe {
+            ffi::heronspan_feed(
+                &mut self.raw,
+                part.as_ptr(),
+                part.len(),
+                self.buffer.as_mut_ptr(),
+                self.buffer.len(),
+                self.closed.as_mut_ptr(),
+                self.closed.len(),
+            )
+        })?;
+        Ok((answer != 0).then(|| self.found()))
+    }
+
+    pub fn finish(&mut self) -> Answer<Request> {
+        told(unsafe {
+            ffi::heronspan_finish(
+                &mut self.raw,
+                self.buffer.as_ptr(),
+                self.buffer.len(),
+                self.closed.as_mut_ptr(),
+                self.closed.len(),
+            )
+        })?;
+        Ok(self.found())
+    }
+
+    /// Feeds all that the source has, and finishes.
+    pub fn read(&mut self, source: &mut impl io::Read) -> io::Result<Answer<Request>> {
+        let mut part = [0; 4096];
+        loop {
+            match source.read(&mut part)? {
+                0 => return Ok(self.finish()),
+                n => {
+                    if let Err(refusal) = self.feed(&part[..n]) {
+                        return Ok(Err(refusal));
+                    }
+                }
+            }
+        }
+    }
+
+    fn found(&self) -> Request {
+        let [effective, termination, size, back, unit, rule, convention, terminal, monthend, first, penultimate, mask, count] = self.raw.request;
+        Request {
+            effective: Date(effective),
+            termination: Date(termination),
+            tenor: if back == 1 { -(size as i32) } else { size as i32 },
+            unit: UNITS[unit as usize],
+            rule: RULES[rule as usize],
+            convention: CONVENTIONS[convention as usize],
+            terminal: CONVENTIONS[terminal as usize],
+            monthend: monthend == 1,
+            first: Date(first),
+            penultimate: Date(penultimate),
+            calendar: Calendar { mask: mask as u8, closed: self.closed[..count as usize].to_vec() },
+            room: Request::MOST,
+        }
     }
 }
 

@@ -11,6 +11,8 @@ pub mod calendars;
 pub mod cycles;
 // Differences and lengths.
 pub mod counts;
+// Requests off the wire.
+pub mod readers;
 // Names of refusals.
 pub mod refusals;
 // Year fractions.

@@ -78,9 +78,9 @@ pub shortend-named : nameOf (negsuc 26) ≡ 83 ∷ 72 ∷ 79 ∷ 82 ∷ 84 ∷ 6
 unfolding nameOf nameOfNumber ofNumber pick refusals letters
 shortend-named = refl
 
-pub no-eighteenth : nameOf (negsuc 17) ≡ []
+pub no-twenty-eighth : nameOf (negsuc 27) ≡ []
 unfolding nameOf nameOfNumber ofNumber pick refusals
-no-eighteenth = refl
+no-twenty-eighth = refl
 
 pub not-plain-named : nameOf (negsuc 18) ≡ 78 ∷ 79 ∷ 84 ∷ 80 ∷ 76 ∷ 65 ∷ 73 ∷ 78 ∷ []
 unfolding nameOf nameOfNumber ofNumber pick refusals letters

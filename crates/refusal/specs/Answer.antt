@@ -59,6 +59,9 @@ CODE = 16
 abbrev pub REQUEST : ℕ
 REQUEST = 17
 
+abbrev pub BUFFER : ℕ
+BUFFER = 18
+
 abbrev pub NOTPLAIN : ℕ
 NOTPLAIN = 19
 

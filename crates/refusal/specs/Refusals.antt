@@ -37,6 +37,7 @@ refusals =
     ∷ refusal 15 "COLLAPSED" "the end merge leaves two dates, the second not after the first"
     ∷ refusal 16 "CODE" "no IMM code, or no IMM date"
     ∷ refusal 17 "REQUEST" "a number outside its list"
+    ∷ refusal 18 "BUFFER" "the lent buffer is shorter than 20,000 bytes"
     ∷ refusal 19 "NOTPLAIN" "the coming date alone: a request that it does not answer"
     ∷ refusal 26 "REVERSED" "an end before its start"
     ∷ refusal 27 "SHORTEND" "end of month on, a positive tenor in days or weeks, and a rule other than Zero"

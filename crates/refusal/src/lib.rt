@@ -37,6 +37,8 @@ pub const CODE: u8 = 16;
 
 pub const REQUEST: u8 = 17;
 
+pub const BUFFER: u8 = 18;
+
 pub const NOTPLAIN: u8 = 19;
 
 pub const REVERSED: u8 = 26;
@@ -48,7 +50,7 @@ pub const SHORTEND: u8 = 27;
 pub struct NameRow(pub u8, pub usize, pub [u8; 16]);
 
 // ---- made by tools/refusals.py: rows
-pub const ROWS: [NameRow; 20] = [
+pub const ROWS: [NameRow; 21] = [
     NameRow(UNEVEN, 6, *b"UNEVEN          "),
     NameRow(BOOK, 4, *b"BOOK            "),
     NameRow(CALENDAR, 8, *b"CALENDAR        "),
@@ -66,6 +68,7 @@ pub const ROWS: [NameRow; 20] = [
     NameRow(COLLAPSED, 9, *b"COLLAPSED       "),
     NameRow(CODE, 4, *b"CODE            "),
     NameRow(REQUEST, 7, *b"REQUEST         "),
+    NameRow(BUFFER, 6, *b"BUFFER          "),
     NameRow(NOTPLAIN, 8, *b"NOTPLAIN        "),
     NameRow(REVERSED, 8, *b"REVERSED        "),
     NameRow(SHORTEND, 8, *b"SHORTEND        "),

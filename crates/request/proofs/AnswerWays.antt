@@ -18,16 +18,9 @@ use Rattle.request.specs.declared.Decoded.the-variants as decoded-is
 use Rattle.request.specs.Format.{pick, isDate, bodyOk, datesOf, requestFrom, closedFrom, Asked, askedFrom, askedIn, fieldsFrom, decoded}
 use Rattle.request.specs.Inner.Places.{twoAt, bodyAt, placed, datesAt, Sized, Lies, PlacesKept, Found, reads, Blank}
 use Rattle.request.specs.Decode.{answered, closedAfter, Decodes}
+use Rattle.request.specs.Laws.Promise.{refuses, same-promise}
 use Rattle.request.proofs.AskWays.{left-out-body, body-there, long-there, kept-1, kept-2, by-fours}
 use Rattle.request.proofs.WriteWays.{dates-length}
-
--- an answer that is known, and what then is promised
-refuses : {o : Answer Asked} (n : ℕ) {l : List ℕ} → refused n ≡ o → Decodes o (decoded-is.Refused n) l l
-unfolding answered closedAfter
-refuses n {l} e = record { answer = ap answered e; list-after = ap (λ (x : Answer Asked). closedAfter x l) e }
-
-pub same-promise : {o o′ : Answer Asked} {r : Decoded} {l l′ : List ℕ} → o ≡ o′ → Decodes o r l l′ → Decodes o′ r l l′
-same-promise {o} {o′} {r} {l} {l′} e d = record { answer = d .answer ∙ ap answered e; list-after = d .list-after ∙ ap (λ (x : Answer Asked). closedAfter x l) e }
 
 -- ---- the closed dates at their place
 module _ {bytes places : List ℕ} (k : PlacesKept bytes places) {count : ℕ} (is : count ≡ length (bodyAt bytes [] (getD places 11 0)) / 4) where

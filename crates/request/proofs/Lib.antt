@@ -5,4 +5,5 @@ pub mod FindWays
 pub mod AskWays
 pub mod WriteWays
 pub mod AnswerWays
+pub mod StoredWays
 pub mod PutWays

@@ -2,3 +2,4 @@
 pub mod Picks
 pub mod Round
 pub mod There
+pub mod Promise

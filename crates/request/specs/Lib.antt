@@ -4,4 +4,5 @@ pub mod Laws
 pub mod Encode
 pub mod Inner
 pub mod Decode
+pub mod Stored
 pub mod Sums

@@ -18,6 +18,8 @@ mod bodies;
 mod fields;
 // What the fields ask for.
 mod asking;
+// What bodies without their headers ask for.
+pub mod stored;
 // The fields written.
 mod writing;
 

@@ -1,0 +1,3 @@
+pub mod ByteWays
+pub mod RunWays
+pub mod FeedWays
