@@ -62,6 +62,15 @@ REQUEST = 17
 abbrev pub NOTPLAIN : ℕ
 NOTPLAIN = 19
 
+abbrev pub INDEX : ℕ
+INDEX = 21
+
+abbrev pub SAME : ℕ
+SAME = 22
+
+abbrev pub FULL : ℕ
+FULL = 23
+
 abbrev pub SHORTEND : ℕ
 SHORTEND = 27
 
