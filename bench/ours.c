@@ -91,6 +91,71 @@ static void year_report(void *with)
     a->answer = heronspan_year_report(dates, a->count, a->list, 3);
 }
 
+/* Open days by an index, which is made before the calls. */
+
+static uint32_t counts[HERONSPAN_PLACES];
+
+static void check(void *with)
+{
+    struct asked *a = (struct asked *)with;
+    a->answer = heronspan_calendar_check(a->calendar.mask, a->calendar.closed, a->calendar.count);
+}
+
+static void index_make(void *with)
+{
+    struct asked *a = (struct asked *)with;
+    a->answer = heronspan_index_make(a->calendar.mask, a->calendar.closed, a->calendar.count, counts, HERONSPAN_PLACES);
+}
+
+static void index_count(void *with)
+{
+    struct asked *a = (struct asked *)with;
+    a->answer = heronspan_index_count(a->day, (uint32_t)a->length, a->calendar.mask, a->calendar.closed, a->calendar.count,
+                                      counts, HERONSPAN_PLACES);
+}
+
+static void index_nth(void *with)
+{
+    struct asked *a = (struct asked *)with;
+    a->answer = heronspan_index_nth(a->day, (uint32_t)a->length, a->calendar.mask, a->calendar.closed, a->calendar.count,
+                                    counts, HERONSPAN_PLACES);
+}
+
+static void index_add(void *with)
+{
+    struct asked *a = (struct asked *)with;
+    a->answer = heronspan_index_add(a->day, a->calendar.mask, a->calendar.closed, a->calendar.count, counts, HERONSPAN_PLACES);
+}
+
+static void index_remove(void *with)
+{
+    struct asked *a = (struct asked *)with;
+    a->answer = heronspan_index_remove(a->day, a->calendar.mask, a->calendar.closed, a->calendar.count, counts, HERONSPAN_PLACES);
+}
+
+static int ask_index(const char *kind, struct asked *a)
+{
+    static const struct {
+        const char *kind;
+        int days, numbers;
+        call made;
+    } questions[] = {{"check", 0, 0, check},         {"ixmake", 0, 0, index_make}, {"ixcount", 1, 1, index_count},
+                     {"ixnth", 1, 1, index_nth},     {"ixadd", 1, 0, index_add},   {"ixremove", 1, 0, index_remove}};
+    for (size_t i = 0; i < sizeof questions / sizeof *questions; i++) {
+        if (strcmp(kind, questions[i].kind) != 0)
+            continue;
+        a->day = questions[i].days ? day() : 0;
+        a->length = questions[i].numbers ? count() : 0;
+        if (kind[0] == 'i')
+            number(); /* the places */
+        a->calendar = calendar();
+        heronspan_index_make(a->calendar.mask, a->calendar.closed, a->calendar.count, counts, HERONSPAN_PLACES);
+        print_times(questions[i].made, a);
+        return 1;
+    }
+    return 0;
+}
+
 static void say_code(int64_t n)
 {
     if (n < 0)
@@ -181,7 +246,7 @@ static void ask(const char *kind)
         print_times(imm_code, &a);
         say_code(a.answer);
         return;
-    } else {
+    } else if (!ask_index(kind, &a)) {
         printf("unasked");
         return;
     }

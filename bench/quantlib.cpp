@@ -56,6 +56,7 @@ struct asked {
     ql::BusinessDayConvention convention, terminal;
     ql::DateGeneration::Rule rule;
     bool monthend, main_cycle, yes;
+    ql::Date::serial_type days;
     std::string code;
     std::unique_ptr<ql::Schedule> schedule;
 };
@@ -146,6 +147,12 @@ static void ask_year(bool fraction)
     }
 }
 
+static void days_between(void *with)
+{
+    asked *a = of(with);
+    a->days = a->calendar.businessDaysBetween(a->first, a->day, true, false);
+}
+
 static void ask_build(asked &a)
 {
     struct build b = read_build();
@@ -212,6 +219,13 @@ static void ask(const std::string &kind)
         a.day = of_day(day());
         print_times(imm_code, &a);
         printf("%s", a.code.c_str());
+    } else if (kind == "ixcount") {
+        a.first = of_day(day());
+        a.day = of_day(day());
+        number(); // the places
+        a.calendar = of_calendar(calendar());
+        print_times(days_between, &a);
+        printf("%ld", static_cast<long>(a.days));
     } else {
         printf("unasked");
     }

@@ -46,6 +46,9 @@ enum {
     HERONSPAN_REQUEST = 17,         /* a number outside its list */
     HERONSPAN_BUFFER = 18,          /* the lent buffer is shorter than 20,000 bytes */
     HERONSPAN_NOTPLAIN = 19,        /* the coming date alone: a request that it does not answer */
+    HERONSPAN_INDEX = 21,           /* an index that has not 601 places */
+    HERONSPAN_SAME_DATE = 22,       /* adding a date that is closed already, or removing one that is not listed */
+    HERONSPAN_FULL = 23,            /* a closed date more than 4,096 */
     HERONSPAN_REVERSED = 26,        /* an end before its start */
     HERONSPAN_SHORTEND = 27         /* end of month on, a positive tenor in days or weeks, and a rule other than Zero */
 };
@@ -157,6 +160,31 @@ int64_t heronspan_is_month_end(uint32_t day, uint8_t mask, const uint32_t *close
 /* The day moved by the tenor: days are open days, the other units are added and adjusted. `monthend` is 0 or 1. */
 int64_t heronspan_calendar_advance(uint32_t day, int32_t tenor, uint8_t unit, uint8_t convention, uint8_t monthend,
                                    uint8_t mask, const uint32_t *closed, size_t closed_len);
+
+/* ---- open days by an index: HERONSPAN_PLACES running counts beside a calendar, at place i the open days from 1800-01-01 up to, and
+ * without, 1 January of 1800 + i. Every other size is HERONSPAN_INDEX, after HERONSPAN_CALENDAR and before all else. The questions'
+ * answers are the plain counts for an index that was made from the calendar given, or changed with it; other counts are safe, and
+ * what is then answered means nothing. */
+#define HERONSPAN_PLACES 601
+
+/* 0, and the calendar's index is written to `index`. */
+int64_t heronspan_index_make(uint8_t mask, const uint32_t *closed, size_t closed_len, uint32_t *index, size_t index_len);
+
+/* How many open days lie from the first day up to, and without, the last: none if that is not later. */
+int64_t heronspan_index_count(uint32_t first, uint32_t last, uint8_t mask, const uint32_t *closed, size_t closed_len,
+                              const uint32_t *index, size_t index_len);
+
+/* The n-th open day after the day, n from 1 to 366, over closed runs of any length. */
+int64_t heronspan_index_nth(uint32_t day, uint32_t n, uint8_t mask, const uint32_t *closed, size_t closed_len,
+                            const uint32_t *index, size_t index_len);
+
+/* 0, and `index` is that of the calendar with one closed date more, or less, from 1800-01-01 to 2399-12-31. `closed` is the list
+ * as before the change, which the caller makes in it. Adding a date that is closed already, weekly or listed, and removing one
+ * that is not listed are HERONSPAN_SAME_DATE; adding to HERONSPAN_MOST dates is HERONSPAN_FULL. */
+int64_t heronspan_index_add(uint32_t day, uint8_t mask, const uint32_t *closed, size_t closed_len, uint32_t *index,
+                            size_t index_len);
+int64_t heronspan_index_remove(uint32_t day, uint8_t mask, const uint32_t *closed, size_t closed_len, uint32_t *index,
+                               size_t index_len);
 
 /* ---- IMM dates and codes. `main` is 1 for the main cycle (March, June, September, December), 0 for every month. A code is a
  * letter and a digit; where one is answered, it is letter * 256 + digit, both bytes. */
@@ -363,6 +391,12 @@ static inline const char *heronspan_refusal_name(int64_t answer) {
         return "BUFFER";
     case -HERONSPAN_NOTPLAIN:
         return "NOTPLAIN";
+    case -HERONSPAN_INDEX:
+        return "INDEX";
+    case -HERONSPAN_SAME_DATE:
+        return "SAME";
+    case -HERONSPAN_FULL:
+        return "FULL";
     case -HERONSPAN_REVERSED:
         return "REVERSED";
     case -HERONSPAN_SHORTEND:

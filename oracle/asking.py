@@ -67,6 +67,11 @@ def request_bytes(words, whole):
     return data + b"\xff\0\0"
 
 
+def year_day(r):
+    """A day at the turn of some year."""
+    return number(r.randrange(1800, 2400), 1, 1) + r.randrange(-2, 3)
+
+
 class Questions:
     def __init__(self, seed):
         self.r = random.Random(seed)
@@ -477,6 +482,40 @@ class Questions:
             data += bytes(r.choice((1, 3, 20000)))
         return " ".join(["bytes", *words[1:4], data.hex() or "-"])
 
+    # Open days by an index: the number of places is seldom another than 601.
+
+    def places(self):
+        return 601 if self.r.random() < .98 else self.r.choice((0, 1, 600, 602, 1202))
+
+    def ixmake(self):
+        return f"ixmake {self.places()} {self.calendar([self.day()])}"
+
+    def ixcount(self):
+        first = self.any_day()
+        last = self.any_day() if self.r.random() < .3 else (first or FIRST) + self.r.randrange(-40, 900)
+        return f"ixcount {first} {last} {self.places()} {self.calendar([first or FIRST, last or FIRST])}"
+
+    def ixnth(self):
+        day, r = self.any_day(), self.r
+        n = r.choice((0, 1, 1, 2, 5, 20, 250, 365, 366, 367, r.randrange(1, 367), r.randrange(1, 367)))
+        return f"ixnth {day} {n} {self.places()} {self.calendar([day or FIRST, (day or FIRST) + n])}"
+
+    def changed(self):
+        """A day, mostly one that the calendar may have or lack, and the calendar."""
+        r, day = self.r, self.any_day()
+        if r.random() < .3:
+            day = r.choice((FIRST_OF_SPAN, LAST_OF_SPAN, FIRST_OF_SPAN - 1, LAST_OF_SPAN + 1, year_day(r)))
+        calendar = self.calendar([min(max(day, FIRST_OF_SPAN + 400), LAST_OF_SPAN - 400)]).split()
+        if len(calendar) > 2 and r.random() < .5:
+            day = r.choice(calendar[2:])
+        return f"{day} {self.places()} {' '.join(calendar)}"
+
+    def ixadd(self):
+        return f"ixadd {self.changed()}"
+
+    def ixremove(self):
+        return f"ixremove {self.changed()}"
+
     def strange(self):
         """A question in which one byte lies outside its list."""
         r = self.r
@@ -493,6 +532,8 @@ SMALL = ("next20 prev20 adjust monthend ismonthend advance immdate immcode code 
          "nextcodecode dateadvance nth nextweekday dmonthend make fields difference compare times").split()
 YEARS = ["yearfraction", "yearparts", "yearreport"]
 MORE = ["open", "check", "lent", "coming", "bytes", "strange", *YEARS]
+# Asked only by name, since the law counts every day from 1800 on.
+INDEX = ["ixmake", "ixcount", "ixnth", "ixadd", "ixremove"]
 KINDS = ["build", "trace", *SMALL]
 
 
@@ -600,7 +641,7 @@ def systematic_questions(kinds=None):
 
 def main():
     args = sys.argv[1:]
-    if len(args) >= 3 and args[0] == "random" and set(args[3:]) <= {*KINDS, *MORE}:
+    if len(args) >= 3 and args[0] == "random" and set(args[3:]) <= {*KINDS, *MORE, *INDEX}:
         questions = random_questions(args[1], int(args[2]), args[3:] or KINDS)
     elif args[:1] == ["systematic"] and set(args[1:]) <= set(SYSTEMATIC):
         questions = systematic_questions(args[1:])

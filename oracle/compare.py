@@ -39,9 +39,10 @@ TODAY = 739252  # 2025-01-01, which smallest inputs are drawn to
 
 # Positions of dates among a question's words.
 DATES = {"build": (1, 2, 9, 10), "trace": (1, 2, 9, 10), "coming": (1, 2, 3), "date": (2,), "nextdatecode": (3,), "nextcodecode": (3,),
-         "difference": (1, 2), "compare": (1, 2), "nth": (), "make": (), "times": (), "immcode": (), "check": ()}
+         "difference": (1, 2), "compare": (1, 2), "nth": (), "make": (), "times": (), "immcode": (), "check": (), "ixcount": (1, 2), "ixmake": ()}
 # Where the calendar starts.
-CALENDAR = {"build": 11, "trace": 11, "coming": 12, "lent": 14, "check": 1, "open": 2, "adjust": 3, "monthend": 2, "ismonthend": 2, "advance": 6}
+CALENDAR = {"build": 11, "trace": 11, "coming": 12, "lent": 14, "check": 1, "open": 2, "adjust": 3, "monthend": 2, "ismonthend": 2, "advance": 6,
+            "ixmake": 2, "ixcount": 4, "ixnth": 4, "ixadd": 3, "ixremove": 3}
 
 
 def answers(program, lines, timeout=None):
@@ -65,7 +66,10 @@ def of_rust(line):
     words = line.split(None, 10)
     if words[0] == "coming":
         return not reference.answer(line).startswith("refused")
-    return words[0] not in ("lent", "bytes", "check", *asking.YEARS) and not reference.outside(words)
+    if words[0] == "ixcount":
+        return not reference.answer(line).startswith("refused")
+    ours_alone = ("lent", "bytes", "check", "ixmake", "ixnth", "ixadd", "ixremove", *asking.YEARS)
+    return words[0] not in ours_alone and not reference.outside(words)
 
 
 def rust_line(line):
@@ -213,6 +217,11 @@ def judge_small(line, said, own, exception):
     agree(expected, own)
     if said is None:
         return "ours = the law, " + (expected if expected.startswith("refused") else "given"), []
+    if kind == "ixcount" and said != expected:
+        if said == "closed":
+            return "a closed run stops the Rust's count here", []
+        if expected == "0" and int(words[2]) < int(words[1]) and int(said) < 0:
+            return "0, the Rust counts back", ["open days between reversed dates"]
     if said == "unasked":
         if expected != "0" and not expected.startswith("refused"):
             raise Differs(f"{said}, {expected}")
@@ -426,7 +435,7 @@ def with_rooms(questions):
 
 
 def questions_of(args, kinds):
-    if len(args) >= 4 and args[0] == "random" and set(args[4:]) <= set(kinds):
+    if len(args) >= 4 and args[0] == "random" and set(args[4:]) <= {*kinds, *asking.INDEX}:
         builds = asking.random_questions(f"{args[1]} builds", int(args[2]), ["build"])
         small = asking.random_questions(f"{args[1]} small", int(args[3]), args[4:] or kinds)
         return itertools.chain(builds, small)

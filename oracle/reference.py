@@ -22,6 +22,7 @@ FIRST_RANGE, FIRST_IMM, FIRST_RULE = 6, 7, 8
 LAST_RANGE, LAST_IMM, LAST_RULE = 9, 10, 11
 MONTHEND, CLOSED, ROOM, COLLAPSED, CODE, REQUEST = 12, 13, 14, 15, 16, 17
 NOTPLAIN = 19
+INDEX, SAME, FULL = 21, 22, 23
 REVERSED = 26
 SHORTEND = 27
 
@@ -679,7 +680,79 @@ def ask_times(w):
     return f"{unit} {length * count}"
 
 
+# Open days by an index (request L9), day by day. A question says how many places the lent index has; ours is asked with the index that
+# it made of the calendar.
+
+COUNTS = 601
+
+
+def year_start(place):
+    return Civil(1800 + place, 1, 1).toordinal()
+
+
+def counts_of(calendar):
+    """The 601 running counts, as one number: place by place, times 31, of 32 bits."""
+    digest = count = 0
+    for place in range(COUNTS):
+        digest = (digest * 31 + count) % 2**32
+        if place < COUNTS - 1:
+            count += sum(map(calendar.open, range(year_start(place), year_start(place + 1))))
+    return digest
+
+
+def index_calendar(w):
+    """The calendar, and the number of places, checked in the table's order."""
+    places, calendar = w.number(), w.calendar()
+    calendar.check()
+    need(places == COUNTS, INDEX)
+    return calendar
+
+
+def ask_ixmake(w):
+    return counts_of(index_calendar(w))
+
+
+def ask_ixcount(w):
+    first, last = w.number(), w.number()
+    calendar = index_calendar(w)
+    need(in_book(first) and in_book(last), BOOK)
+    return sum(map(calendar.open, range(first, last)))
+
+
+def ask_ixnth(w):
+    day, n = w.number(), w.number()
+    calendar = index_calendar(w)
+    need(in_book(day), BOOK)
+    need(1 <= n <= 366, TENOR)
+    while n:
+        day += 1
+        n -= calendar.open(day)
+    return within_span(day)
+
+
+def ask_ixadd(w):
+    day = w.number()
+    calendar = index_calendar(w)
+    need(FIRST_OF_SPAN <= day <= LAST_OF_SPAN, BOOK)
+    need(calendar.open(day), SAME)
+    need(len(calendar.closed) < PLACES, FULL)
+    return counts_of(Calendar(calendar.mask, tuple(sorted((*calendar.closed, day)))))
+
+
+def ask_ixremove(w):
+    day = w.number()
+    calendar = index_calendar(w)
+    need(FIRST_OF_SPAN <= day <= LAST_OF_SPAN, BOOK)
+    need(day in calendar.shut, SAME)
+    return counts_of(Calendar(calendar.mask, tuple(closed for closed in calendar.closed if closed != day)))
+
+
 ASK = {
+    "ixmake": ask_ixmake,
+    "ixcount": ask_ixcount,
+    "ixnth": ask_ixnth,
+    "ixadd": ask_ixadd,
+    "ixremove": ask_ixremove,
     "bytes": ask_bytes,
     "coming": ask_coming,
     "check": ask_check,

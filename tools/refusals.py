@@ -14,6 +14,8 @@ ROOT = os.path.dirname(os.path.dirname(os.path.abspath(__file__)))
 LIST = os.path.join("crates", "refusal", "specs", "Refusals.antt")
 # The width of the code's rows.
 WIDTH = 16
+# Names that the header has for something else: HERONSPAN_SAME is an order of two dates.
+IN_C = {"SAME": "SAME_DATE"}
 
 
 def refusals():
@@ -21,6 +23,10 @@ def refusals():
     with open(os.path.join(ROOT, LIST)) as f:
         found = re.findall(r'^ +(?:∷ )?refusal (\d+) "(\w+)"\s+"([^"]*)"$', f.read(), re.M)
     return [(int(number), name, meaning) for number, name, meaning in found]
+
+
+def in_c(name):
+    return "HERONSPAN_" + IN_C.get(name, name)
 
 
 def camel(name):
@@ -42,13 +48,13 @@ def code(rows):
 
 def header(rows):
     ends = [","] * (len(rows) - 1) + [""]
-    said = [f"    HERONSPAN_{name} = {number}{end}" for (number, name, _), end in zip(rows, ends)]
+    said = [f"    {in_c(name)} = {number}{end}" for (number, name, _), end in zip(rows, ends)]
     width = max(map(len, said))
     return "enum {\n" + "".join(f"{line:{width}} /* {row[2]} */\n" for line, row in zip(said, rows)) + "};\n"
 
 
 def names(rows):
-    return "".join(f'    case -HERONSPAN_{name}:\n        return "{name}";\n' for _, name, _ in rows)
+    return "".join(f'    case -{in_c(name)}:\n        return "{name}";\n' for _, name, _ in rows)
 
 
 def python(rows):

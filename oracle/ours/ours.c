@@ -378,6 +378,78 @@ static int ask_calendar(const char *kind)
     return 1;
 }
 
+/* Open days by an index. */
+
+enum { COUNT = 0x1dea, COUNTS = 3 * HERONSPAN_PLACES };
+
+static uint32_t counts[COUNTS];
+
+/* The index that was made of the calendar, in as many places, or a pattern where it cannot be made. */
+static void made(const struct calendar *c, size_t places)
+{
+    if (places > COUNTS - EXTRA)
+        stop("a longer index than there is");
+    for (size_t i = 0; i < COUNTS; i++)
+        counts[i] = COUNT;
+    if (places == HERONSPAN_PLACES)
+        heronspan_index_make(c->mask, c->closed, c->count, counts, places);
+}
+
+/* The counts as one number, where the call was done; a refusal leaves them, and no call writes beyond them. */
+static void say_index(int64_t n, const uint32_t *before, size_t places)
+{
+    uint32_t digest = 0;
+    for (size_t i = 0; i < places; i++)
+        digest = digest * 31 + counts[i];
+    for (size_t i = places; i < COUNTS; i++)
+        if (counts[i] != COUNT) {
+            say("wrote elsewhere");
+            return;
+        }
+    if (n < 0 && memcmp(before, counts, places * sizeof *counts) != 0)
+        say("wrote though refused");
+    else if (n > 0)
+        say("answered %lld", (long long)n);
+    else
+        n < 0 ? say_number(n) : say("%lu", (unsigned long)digest);
+}
+
+static int ask_index(const char *kind)
+{
+    static uint32_t before[COUNTS];
+    if (is(kind, "ixmake")) {
+        size_t places = (size_t)number();
+        struct calendar c = calendar();
+        made(&c, 0);
+        memcpy(before, counts, sizeof counts);
+        say_index(heronspan_index_make(c.mask, c.closed, c.count, counts, places), before, places);
+    } else if (is(kind, "ixcount")) {
+        uint32_t first = day(), last = day();
+        size_t places = (size_t)number();
+        struct calendar c = calendar();
+        made(&c, places);
+        say_number(heronspan_index_count(first, last, c.mask, c.closed, c.count, counts, places));
+    } else if (is(kind, "ixnth")) {
+        uint32_t d = day(), n = day();
+        size_t places = (size_t)number();
+        struct calendar c = calendar();
+        made(&c, places);
+        say_number(heronspan_index_nth(d, n, c.mask, c.closed, c.count, counts, places));
+    } else if (is(kind, "ixadd") || is(kind, "ixremove")) {
+        uint32_t d = day();
+        size_t places = (size_t)number();
+        struct calendar c = calendar();
+        made(&c, places);
+        memcpy(before, counts, sizeof counts);
+        int64_t n = is(kind, "ixadd") ? heronspan_index_add(d, c.mask, c.closed, c.count, counts, places)
+                                      : heronspan_index_remove(d, c.mask, c.closed, c.count, counts, places);
+        say_index(n, before, places);
+    } else {
+        return 0;
+    }
+    return 1;
+}
+
 static int ask_cycle(const char *kind)
 {
     if (is(kind, "next20")) {
@@ -424,7 +496,8 @@ int main(void)
     setvbuf(stdout, output, _IOFBF, sizeof output);
     while (next_line()) {
         char *kind = word();
-        if (!ask_schedule(kind) && !ask_date(kind) && !ask_calendar(kind) && !ask_cycle(kind) && !ask_year(kind))
+        if (!ask_schedule(kind) && !ask_date(kind) && !ask_calendar(kind) && !ask_index(kind) && !ask_cycle(kind) &&
+            !ask_year(kind))
             stop("no such question");
         end();
         putchar('\n');

@@ -20,8 +20,8 @@ from pathlib import Path
 from typing import Iterable, Optional, Sequence
 
 __all__ = [
-    "Basis", "Calendar", "Coming", "Convention", "Order", "Parts", "Reader", "Refusal", "Refused", "Request", "Rule", "Schedule", "Sums", "Unit",
-    "WEEKENDS", "advance", "build",
+    "Basis", "Calendar", "Coming", "Convention", "Index", "Order", "Parts", "Reader", "Refusal", "Refused", "Request", "Rule", "Schedule", "Sums",
+    "Unit", "WEEKENDS", "advance", "build",
     "build_bytes", "coming", "compare", "difference", "imm_code", "imm_date", "is_imm_code", "is_imm_date", "make", "month_end", "next_imm_code",
     "next_imm_date", "next_twentieth", "next_weekday", "nth_weekday", "previous_twentieth", "refusal_name", "times",
     "weekday", "year_fraction", "year_parts", "year_report",
@@ -49,6 +49,9 @@ class Refusal(IntEnum):
     REQUEST = 17  # a number outside its list
     BUFFER = 18  # the lent buffer is shorter than 20,000 bytes
     NOTPLAIN = 19  # the coming date alone: a request that it does not answer
+    INDEX = 21  # an index that has not 601 places
+    SAME = 22  # adding a date that is closed already, or removing one that is not listed
+    FULL = 23  # a closed date more than 4,096
     REVERSED = 26  # an end before its start
     SHORTEND = 27  # end of month on, a positive tenor in days or weeks, and a rule other than Zero
     # made so far
@@ -132,6 +135,11 @@ _PARAMETERS = {
     "calendar_month_end": [_u32, _u8, *_days],
     "is_month_end": [_u32, _u8, *_days],
     "calendar_advance": [_u32, _i32, _u8, _u8, _u8, _u8, *_days],
+    "index_make": [_u8, *_days, *_days],
+    "index_count": [_u32, _u32, _u8, *_days, *_days],
+    "index_nth": [_u32, _u32, _u8, *_days, *_days],
+    "index_add": [_u32, _u8, *_days, *_days],
+    "index_remove": [_u32, _u8, *_days, *_days],
     "is_imm_date": [_u32, _u8],
     "is_imm_code": [*_bytes, _u8],
     "imm_code": [_u32],
@@ -314,6 +322,42 @@ class Calendar:
         """The date moved by the tenor: days are open days, the other units are added and adjusted."""
         lent = (_signed(tenor), _byte(unit), _byte(convention), int(monthend), *self._lent)
         return _date(_ask("calendar_advance", _number(day), *lent))
+
+
+class Index:
+    """Running counts of a calendar's open days, which answer without a walk over the days. It has the calendar that it belongs to."""
+
+    # One for the start of each year from 1800 to 2400.
+    PLACES = 601
+
+    def __init__(self, calendar: Calendar) -> None:
+        self.calendar = calendar
+        self._counts = (_u32 * Index.PLACES)()
+        _ask("index_make", *calendar._lent, self._counts, Index.PLACES)
+
+    @property
+    def counts(self) -> list[int]:
+        """At place i the open days from 1800-01-01 up to, and without, 1 January of 1800 + i."""
+        return list(self._counts)
+
+    def count(self, first: Optional[date], last: Optional[date]) -> int:
+        """The open days from the first date up to, and without, the last: none if that is not later."""
+        return _ask("index_count", _number(first), _number(last), *self.calendar._lent, self._counts, Index.PLACES)
+
+    def nth(self, day: Optional[date], n: int) -> date:
+        """The n-th open day after the date, n from 1 to 366."""
+        asked = _in(n, 0, 2**32 - 1, Refusal.TENOR)
+        return _date(_ask("index_nth", _number(day), asked, *self.calendar._lent, self._counts, Index.PLACES))
+
+    def add(self, day: Optional[date]) -> None:
+        """One closed date more: the index and its calendar are then those with the date."""
+        _ask("index_add", _number(day), *self.calendar._lent, self._counts, Index.PLACES)
+        self.calendar = Calendar(self.calendar.mask, sorted([*self.calendar.closed, day]))
+
+    def remove(self, day: Optional[date]) -> None:
+        """One closed date less: the index and its calendar are then those without the date."""
+        _ask("index_remove", _number(day), *self.calendar._lent, self._counts, Index.PLACES)
+        self.calendar = Calendar(self.calendar.mask, [closed for closed in self.calendar.closed if closed != day])
 
 
 # ---- IMM dates and codes

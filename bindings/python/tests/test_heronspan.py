@@ -115,6 +115,76 @@ class Calendars(Refusals):
         self.refused("CALENDAR", h.Calendar, 0, days("2025-04-21", "2025-04-18"))
 
 
+class Indexes(Refusals):
+    def test_counts_from_1800(self) -> None:
+        counts = h.Index(h.Calendar()).counts
+        self.assertEqual(len(counts), 601)
+        self.assertEqual(counts[:6], [0, 365, 730, 1095, 1460, 1826])
+        self.assertEqual(counts[600], 219145)
+
+    def test_first_included_last_not(self) -> None:
+        index = h.Index(h.Calendar(h.WEEKENDS))
+        self.assertEqual(index.count(date(2025, 3, 3), date(2025, 3, 4)), 1)
+        self.assertEqual(index.count(date(2025, 3, 1), date(2025, 3, 3)), 0)
+        self.assertEqual(index.count(date(2025, 3, 4), date(2025, 3, 3)), 0)
+        self.assertEqual(index.count(date(1901, 1, 1), date(2199, 12, 31)), 78005)
+        self.refused("BOOK", index.count, date(1900, 12, 31), date(2025, 3, 3))
+
+    def test_the_nth_is_after_the_date(self) -> None:
+        index = h.Index(h.Calendar(h.WEEKENDS))
+        self.assertEqual(index.nth(date(2025, 2, 28), 1), date(2025, 3, 3))
+        self.assertEqual(index.nth(date(2025, 3, 1), 1), date(2025, 3, 3))
+        self.assertEqual(index.nth(date(2025, 3, 3), 1), date(2025, 3, 4))
+        self.refused("TENOR", index.nth, date(2025, 3, 3), 0)
+        self.refused("TENOR", index.nth, date(2025, 3, 3), 367)
+        self.refused("BOOK", index.nth, None, 0)
+
+    def test_a_closed_month_is_passed(self) -> None:
+        march = h.Calendar(0, [date(2025, 3, day) for day in range(1, 32)])
+        self.assertEqual(h.Index(march).nth(date(2025, 2, 28), 1), date(2025, 4, 1))
+        self.refused("CLOSED", march.advance, date(2025, 2, 28), 1, Unit.DAYS)
+
+    def test_changes_are_those_of_a_fresh_index(self) -> None:
+        index = h.Index(h.Calendar(h.WEEKENDS, days("2025-03-01", "2025-04-18")))
+        before = index.counts
+        index.add(date(2025, 4, 21))
+        self.assertEqual(index.counts, h.Index(h.Calendar(h.WEEKENDS, days("2025-03-01", "2025-04-18", "2025-04-21"))).counts)
+        self.assertEqual(index.counts[:226], before[:226])
+        self.assertEqual(index.counts[226], before[226] - 1)
+        self.assertEqual(index.count(date(2025, 4, 17), date(2025, 4, 23)), 2)
+        index.remove(date(2025, 4, 21))
+        index.remove(date(2025, 3, 1))
+        self.assertEqual(index.counts, before)
+        self.assertEqual(index.calendar.closed, (date(2025, 4, 18),))
+        self.refused("SAME", index.add, date(2025, 4, 18))
+        self.refused("SAME", index.add, date(2025, 3, 1))
+        self.refused("SAME", index.remove, date(2025, 3, 1))
+        self.refused("BOOK", index.add, date(1799, 12, 31))
+
+    def test_a_full_list(self) -> None:
+        start = date(2000, 1, 3).toordinal()
+        index = h.Index(h.Calendar(0, [date.fromordinal(start + 2 * i) for i in range(4096)]))
+        self.refused("FULL", index.add, date.fromordinal(start + 1))
+        self.refused("SAME", index.add, date.fromordinal(start + 2))
+        index.remove(date.fromordinal(start))
+        index.add(date.fromordinal(start + 1))
+        self.assertEqual(index.counts, h.Index(index.calendar).counts)
+
+    def test_a_refusal_leaves_the_index(self) -> None:
+        short = (ctypes.c_uint32 * 600)(*range(600))
+        self.assertEqual(h._library.heronspan_index_make(0, None, 0, short, 600), -21)
+        self.assertEqual(h._library.heronspan_index_add(0, 127, None, 0, short, 600), -3)
+        self.assertEqual(list(short), list(range(600)))
+
+    def test_any_counts_are_safe(self) -> None:
+        for value in (0, 219145, 2**32 - 1):
+            other = (ctypes.c_uint32 * 601)(*([value] * 601))
+            self.assertEqual(h._library.heronspan_index_add(657072, 0, None, 0, other, 601), 0)
+            first, last = date(1901, 1, 1).toordinal(), date(2199, 12, 31).toordinal()
+            self.assertIn(h._library.heronspan_index_count(first, last, 96, None, 0, other, 601), range(365))
+            self.assertNotIn(h._library.heronspan_index_nth(last, 366, 96, None, 0, other, 601), range(-1, 657072))
+
+
 class Imm(Refusals):
     def test_dates(self) -> None:
         self.assertTrue(h.is_imm_date(date(2025, 3, 19)))

@@ -31,6 +31,47 @@ extern "C" {
         closed: *const u32,
         closed_len: usize,
     ) -> i64;
+    pub fn heronspan_index_make(
+        mask: u8,
+        closed: *const u32,
+        closed_len: usize,
+        index: *mut u32,
+        index_len: usize,
+    ) -> i64;
+    pub fn heronspan_index_count(
+        first: u32,
+        last: u32,
+        mask: u8,
+        closed: *const u32,
+        closed_len: usize,
+        index: *const u32,
+        index_len: usize,
+    ) -> i64;
+    pub fn heronspan_index_nth(
+        day: u32,
+        n: u32,
+        mask: u8,
+        closed: *const u32,
+        closed_len: usize,
+        index: *const u32,
+        index_len: usize,
+    ) -> i64;
+    pub fn heronspan_index_add(
+        day: u32,
+        mask: u8,
+        closed: *const u32,
+        closed_len: usize,
+        index: *mut u32,
+        index_len: usize,
+    ) -> i64;
+    pub fn heronspan_index_remove(
+        day: u32,
+        mask: u8,
+        closed: *const u32,
+        closed_len: usize,
+        index: *mut u32,
+        index_len: usize,
+    ) -> i64;
     pub fn heronspan_is_imm_date(day: u32, main: u8) -> i64;
     pub fn heronspan_is_imm_code(code: *const u8, code_len: usize, main: u8) -> i64;
     pub fn heronspan_imm_code(day: u32) -> i64;

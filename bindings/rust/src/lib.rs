@@ -52,6 +52,12 @@ pub enum Refusal {
     Buffer = 18,
     /// The coming date alone: a request that it does not answer.
     Notplain = 19,
+    /// An index that has not 601 places.
+    Index = 21,
+    /// Adding a date that is closed already, or removing one that is not listed.
+    Same = 22,
+    /// A closed date more than 4,096.
+    Full = 23,
     /// An end before its start.
     Reversed = 26,
     /// End of month on, a positive tenor in days or weeks, and a rule other than Zero.
@@ -60,7 +66,7 @@ pub enum Refusal {
 }
 
 // made by tools/refusals.py: names
-const REFUSALS: [(Refusal, &str); 21] = [
+const REFUSALS: [(Refusal, &str); 24] = [
     (Refusal::Uneven, "UNEVEN"),
     (Refusal::Book, "BOOK"),
     (Refusal::Calendar, "CALENDAR"),
@@ -80,6 +86,9 @@ const REFUSALS: [(Refusal, &str); 21] = [
     (Refusal::Request, "REQUEST"),
     (Refusal::Buffer, "BUFFER"),
     (Refusal::Notplain, "NOTPLAIN"),
+    (Refusal::Index, "INDEX"),
+    (Refusal::Same, "SAME"),
+    (Refusal::Full, "FULL"),
     (Refusal::Reversed, "REVERSED"),
     (Refusal::Shortend, "SHORTEND"),
 ];
@@ -315,6 +324,69 @@ impl Calendar {
                 len,
             )
         })
+    }
+}
+
+/// Running counts of a calendar's open days, one for the start of each year from 1800 to 2400, which answer without a walk over the
+/// days. It has the calendar that it belongs to.
+#[derive(Clone, Debug, PartialEq, Eq)]
+pub struct Index {
+    calendar: Calendar,
+    counts: Vec<u32>,
+}
+
+impl Index {
+    pub const PLACES: usize = 601;
+
+    pub fn new(calendar: Calendar) -> Answer<Index> {
+        let mut counts = vec![0; Index::PLACES];
+        let (list, len) = calendar.lent();
+        told(unsafe { ffi::heronspan_index_make(calendar.mask, list, len, counts.as_mut_ptr(), counts.len()) })?;
+        Ok(Index { calendar, counts })
+    }
+
+    /// The calendar as it is after the changes so far.
+    pub fn calendar(&self) -> &Calendar {
+        &self.calendar
+    }
+
+    /// At place i the open days from 1800-01-01 up to, and without, 1 January of 1800 + i.
+    pub fn counts(&self) -> &[u32] {
+        &self.counts
+    }
+
+    /// The open days from the first date up to, and without, the last: none if that is not later.
+    pub fn count(&self, first: Date, last: Date) -> Answer<u32> {
+        let (list, len) = self.calendar.lent();
+        let (counts, places) = (self.counts.as_ptr(), self.counts.len());
+        told(unsafe { ffi::heronspan_index_count(first.0, last.0, self.calendar.mask, list, len, counts, places) })
+            .map(|n| n as u32)
+    }
+
+    /// The n-th open day after the date, n from 1 to 366.
+    pub fn nth(&self, date: Date, n: u32) -> Answer<Date> {
+        let (list, len) = self.calendar.lent();
+        let (counts, places) = (self.counts.as_ptr(), self.counts.len());
+        day(unsafe { ffi::heronspan_index_nth(date.0, n, self.calendar.mask, list, len, counts, places) })
+    }
+
+    /// One closed date more: the index and its calendar are then those with the date.
+    pub fn add(&mut self, date: Date) -> Answer<()> {
+        let (list, len) = self.calendar.lent();
+        let (counts, places) = (self.counts.as_mut_ptr(), self.counts.len());
+        told(unsafe { ffi::heronspan_index_add(date.0, self.calendar.mask, list, len, counts, places) })?;
+        let place = self.calendar.closed.partition_point(|&closed| closed < date.0);
+        self.calendar.closed.insert(place, date.0);
+        Ok(())
+    }
+
+    /// One closed date less: the index and its calendar are then those without the date.
+    pub fn remove(&mut self, date: Date) -> Answer<()> {
+        let (list, len) = self.calendar.lent();
+        let (counts, places) = (self.counts.as_mut_ptr(), self.counts.len());
+        told(unsafe { ffi::heronspan_index_remove(date.0, self.calendar.mask, list, len, counts, places) })?;
+        self.calendar.closed.retain(|&closed| closed != date.0);
+        Ok(())
     }
 }
 

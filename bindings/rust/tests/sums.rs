@@ -1,5 +1,5 @@
 //! Sums by hand of document 01, and what is refused.
-use heronspan::{imm, times, year_fraction, year_parts, year_report, Basis, Calendar, Coming, Convention, Date, Parts, Refusal, Request, Rule, Schedule, Sums, Unit};
+use heronspan::{imm, times, year_fraction, year_parts, year_report, Basis, Calendar, Coming, Convention, Date, Index, Parts, Refusal, Request, Rule, Schedule, Sums, Unit};
 use std::cmp::Ordering;
 
 fn day(year: u32, month: u32, day: u32) -> Date {
@@ -52,6 +52,31 @@ fn calendars() {
     let next = easter.advance(day(2025, 4, 17), 1, Unit::Days, Convention::Following, false);
     assert_eq!(next, Ok(day(2025, 4, 22)));
     assert_eq!(Calendar::new(127, &[]), Err(Refusal::Calendar));
+}
+
+#[test]
+fn open_days_by_index() {
+    let always = Index::new(Calendar::default()).unwrap();
+    assert_eq!(always.counts()[..6], [0, 365, 730, 1095, 1460, 1826]);
+    assert_eq!(always.counts()[600], 219145);
+    let mut index = Index::new(Calendar::new(Calendar::WEEKENDS, &[day(2025, 3, 1)]).unwrap()).unwrap();
+    assert_eq!(index.count(day(2025, 3, 3), day(2025, 3, 4)), Ok(1));
+    assert_eq!(index.count(day(2025, 3, 1), day(2025, 3, 3)), Ok(0));
+    assert_eq!(index.count(day(2025, 3, 4), day(2025, 3, 3)), Ok(0));
+    assert_eq!(index.count(Date::NONE, day(2025, 3, 3)), Err(Refusal::Book));
+    assert_eq!(index.nth(day(2025, 2, 28), 1), Ok(day(2025, 3, 3)));
+    assert_eq!(index.nth(day(2025, 2, 28), 367), Err(Refusal::Tenor));
+    let before = index.clone();
+    assert_eq!(index.add(day(2025, 3, 3)), Ok(()));
+    assert_eq!(index.nth(day(2025, 2, 28), 1), Ok(day(2025, 3, 4)));
+    assert_eq!(index.counts()[..226], before.counts()[..226]);
+    assert_eq!(index, Index::new(index.calendar().clone()).unwrap());
+    assert_eq!(index.add(day(2025, 3, 3)), Err(Refusal::Same));
+    assert_eq!(index.remove(day(2025, 3, 3)), Ok(()));
+    assert_eq!(index, before);
+    assert_eq!(index.remove(day(2025, 3, 1)), Ok(()));
+    assert_eq!(index.counts(), before.counts());
+    assert_eq!(index.remove(day(2025, 3, 1)), Err(Refusal::Same));
 }
 
 #[test]

@@ -7,6 +7,8 @@ pub mod dates;
 pub mod builds;
 // Calendars.
 pub mod calendars;
+// Open days by an index.
+pub mod indexes;
 // IMM dates and codes, and twentieths.
 pub mod cycles;
 // Differences and lengths.

@@ -1,4 +1,5 @@
 pub mod Answers
+pub mod Indexes
 pub mod Numbers
 pub mod Requests
 pub mod Names

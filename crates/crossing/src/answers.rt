@@ -7,6 +7,7 @@ ghost use Prim.Native.Nat.{_+_, _*_};
 ghost use Rattle.date.specs.Civil.{pickN};
 ghost use Rattle.imm.specs.Imm.{tested, coded};
 ghost use Rattle.coming.specs.Coming.{meant};
+ghost use Rattle.crossing.specs.Indexes.{numberOf};
 ghost use Rattle.crossing.specs.Answers.{oneNumber, itself, digits, place, yes, twoBytes, marked, done};
 use calendar::Checked;
 use calendar::Decided;
@@ -18,6 +19,7 @@ use date::Numbered;
 use date::Split;
 use imm::Tested;
 use imm::codes::Coded;
+use opendays::Changed;
 
 pub fn value(x: u32) -> i64
     ensures { λ r. ⌜ r ≡ pos x ⌝ }
@@ -143,5 +145,14 @@ pub fn of_coming(c: Coming) -> i64
         Coming::Ending { date, regular } => with_mark(date.day, mark_of(regular)),
         Coming::Nothing => value(0),
         Coming::Refused(n) => minus(n),
+    }
+}
+
+pub fn of_changed(c: Changed) -> i64
+    ensures { λ r. ⌜ r ≡ numberOf c ⌝ }
+{
+    match c {
+        Changed::Done => value(0),
+        Changed::Refused(n) => minus(n),
     }
 }

@@ -65,6 +65,15 @@ BUFFER = 18
 abbrev pub NOTPLAIN : ℕ
 NOTPLAIN = 19
 
+abbrev pub INDEX : ℕ
+INDEX = 21
+
+abbrev pub SAME : ℕ
+SAME = 22
+
+abbrev pub FULL : ℕ
+FULL = 23
+
 abbrev pub REVERSED : ℕ
 REVERSED = 26
 

@@ -39,6 +39,9 @@ refusals =
     ∷ refusal 17 "REQUEST" "a number outside its list"
     ∷ refusal 18 "BUFFER" "the lent buffer is shorter than 20,000 bytes"
     ∷ refusal 19 "NOTPLAIN" "the coming date alone: a request that it does not answer"
+    ∷ refusal 21 "INDEX" "an index that has not 601 places"
+    ∷ refusal 22 "SAME" "adding a date that is closed already, or removing one that is not listed"
+    ∷ refusal 23 "FULL" "a closed date more than 4,096"
     ∷ refusal 26 "REVERSED" "an end before its start"
     ∷ refusal 27 "SHORTEND" "end of month on, a positive tenor in days or weeks, and a rule other than Zero"
     ∷ []

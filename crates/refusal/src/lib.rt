@@ -41,6 +41,12 @@ pub const BUFFER: u8 = 18;
 
 pub const NOTPLAIN: u8 = 19;
 
+pub const INDEX: u8 = 21;
+
+pub const SAME: u8 = 22;
+
+pub const FULL: u8 = 23;
+
 pub const REVERSED: u8 = 26;
 
 pub const SHORTEND: u8 = 27;
@@ -50,7 +56,7 @@ pub const SHORTEND: u8 = 27;
 pub struct NameRow(pub u8, pub usize, pub [u8; 16]);
 
 // ---- made by tools/refusals.py: rows
-pub const ROWS: [NameRow; 21] = [
+pub const ROWS: [NameRow; 24] = [
     NameRow(UNEVEN, 6, *b"UNEVEN          "),
     NameRow(BOOK, 4, *b"BOOK            "),
     NameRow(CALENDAR, 8, *b"CALENDAR        "),
@@ -70,6 +76,9 @@ pub const ROWS: [NameRow; 21] = [
     NameRow(REQUEST, 7, *b"REQUEST         "),
     NameRow(BUFFER, 6, *b"BUFFER          "),
     NameRow(NOTPLAIN, 8, *b"NOTPLAIN        "),
+    NameRow(INDEX, 5, *b"INDEX           "),
+    NameRow(SAME, 4, *b"SAME            "),
+    NameRow(FULL, 4, *b"FULL            "),
     NameRow(REVERSED, 8, *b"REVERSED        "),
     NameRow(SHORTEND, 8, *b"SHORTEND        "),
 ];

@@ -367,6 +367,8 @@ fn answer(line: &str) -> Read<String> {
         "ismonthend" => ask!(d: date, cal: calendar; Ok(flag(cal.is_end_of_month(&d)))),
         "advance" => ask!(d: date, p: period, c: convention, e: flag, cal: calendar;
             Ok(day(cal.advance(d, p, Some(c), e)?))),
+        "ixcount" => ask!(a: date, b: date, _places: number, cal: calendar;
+            Ok(cal.business_days_between(a, b, true, false).to_string())),
         "immdate" => ask!(d: date, m: flag; Ok(flag(IMM::is_imm_date(d, m)))),
         "immcode" => ask!(t: text, m: flag; Ok(flag(IMM::is_imm_code(&t, m)))),
         "code" => ask!(d: date; Ok(IMM::code(d))),

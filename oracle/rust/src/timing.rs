@@ -78,6 +78,10 @@ pub fn answer(line: &str, rounds: usize) -> Read<String> {
             let (d, p, c, e, calendar) = (w.date()?, w.period()?, w.convention()?, w.flag()?, w.calendar()?);
             timed(rounds, || calendar.advance(black_box(d), p, Some(c), e).expect("a date"), day)
         }
+        "ixcount" => {
+            let (a, b, _, calendar) = (w.date()?, w.date()?, w.number()?, w.calendar()?);
+            timed(rounds, || calendar.business_days_between(black_box(a), b, true, false), |n| n.to_string())
+        }
         "immdate" => {
             let (d, main) = (w.date()?, w.flag()?);
             timed(rounds, || IMM::is_imm_date(black_box(d), main), flag)

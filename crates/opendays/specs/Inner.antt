@@ -1,0 +1,2 @@
+-- Terms of promises between our own functions: no customer meets them.
+pub mod Steps
