@@ -44,6 +44,7 @@ enum {
     HERONSPAN_CODE = 16,            /* no IMM code, or no IMM date */
     HERONSPAN_REQUEST = 17,         /* a number outside its list */
     HERONSPAN_NOTPLAIN = 19,        /* the coming date alone: a request that it does not answer */
+    HERONSPAN_FULL = 23,            /* a closed date more than 4,096 */
     HERONSPAN_SHORTEND = 27         /* end of month on, a positive tenor in days or weeks, and a rule other than Zero */
 };
 /* ---- made so far */
@@ -147,6 +148,22 @@ int64_t heronspan_is_month_end(uint32_t day, uint8_t mask, const uint32_t *close
 /* The day moved by the tenor: days are open days, the other units are added and adjusted. `monthend` is 0 or 1. */
 int64_t heronspan_calendar_advance(uint32_t day, int32_t tenor, uint8_t unit, uint8_t convention, uint8_t monthend,
                                    uint8_t mask, const uint32_t *closed, size_t closed_len);
+
+/* ---- a desk's closed dates over the house's: for each year the desk's if it has any there, otherwise the house's. Each list by itself keeps
+   the rule of closed dates. */
+
+/* 0 where the run of a year is answered: both lists keep their rule (else 3), and the year lies from 1800 to 2399 (else 2). */
+int64_t heronspan_desk_check(const uint32_t *desk, size_t desk_len, const uint32_t *house, size_t house_len, uint32_t year);
+
+/* How many entries the run of a year has, 0 where neither list has one. The list that it stands in, 0 for none, 1 for the desk's, 2 for the
+   house's, is written to the first place of `place`, and where the run starts in it to the second; fewer than two places are 14, before all
+   else, and a refusal leaves them as they were. */
+int64_t heronspan_desk_run(const uint32_t *desk, size_t desk_len, const uint32_t *house, size_t house_len, uint32_t year, uint32_t *place,
+                           size_t place_len);
+
+/* The day adjusted by a convention, each day that is tried open or closed by the run of its own year. */
+int64_t heronspan_desk_adjust(uint32_t day, uint8_t convention, uint8_t mask, const uint32_t *desk, size_t desk_len, const uint32_t *house,
+                              size_t house_len);
 
 /* ---- IMM dates and codes. `main` is 1 for the main cycle (March, June, September, December), 0 for every month. A code is a
  * letter and a digit; where one is answered, it is letter * 256 + digit, both bytes. */
@@ -283,6 +300,8 @@ static inline const char *heronspan_refusal_name(int64_t answer) {
         return "REQUEST";
     case -HERONSPAN_NOTPLAIN:
         return "NOTPLAIN";
+    case -HERONSPAN_FULL:
+        return "FULL";
     case -HERONSPAN_SHORTEND:
         return "SHORTEND";
     /* made so far */

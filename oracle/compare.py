@@ -39,7 +39,7 @@ TODAY = 739252  # 2025-01-01, which smallest inputs are drawn to
 
 # Positions of dates among a question's words.
 DATES = {"build": (1, 2, 9, 10), "trace": (1, 2, 9, 10), "coming": (1, 2, 3), "date": (2,), "nextdatecode": (3,), "nextcodecode": (3,),
-         "difference": (1, 2), "compare": (1, 2), "nth": (), "make": (), "times": (), "immcode": (), "check": ()}
+         "difference": (1, 2), "compare": (1, 2), "nth": (), "make": (), "times": (), "immcode": (), "check": (), "deskrun": ()}
 # Where the calendar starts.
 CALENDAR = {"build": 11, "trace": 11, "coming": 12, "lent": 14, "check": 1, "open": 2, "adjust": 3, "monthend": 2, "ismonthend": 2, "advance": 6}
 
@@ -65,7 +65,7 @@ def of_rust(line):
     words = line.split(None, 10)
     if words[0] == "coming":
         return not reference.answer(line).startswith("refused")
-    return words[0] not in ("lent", "bytes", "check") and not reference.outside(words)
+    return words[0] not in ("lent", "bytes", "check", "deskrun", "deskadjust") and not reference.outside(words)
 
 
 def rust_line(line):
@@ -427,11 +427,11 @@ def with_rooms(questions):
 
 def questions_of(args, kinds):
     if len(args) >= 4 and args[0] == "random" and set(args[4:]) <= set(kinds):
-        builds = requests.random_questions(f"{args[1]} builds", int(args[2]), ["build"])
-        small = requests.random_questions(f"{args[1]} small", int(args[3]), args[4:] or kinds)
+        builds = asking.random_questions(f"{args[1]} builds", int(args[2]), ["build"])
+        small = asking.random_questions(f"{args[1]} small", int(args[3]), args[4:] or kinds)
         return itertools.chain(builds, small)
-    if args[:1] == ["systematic"] and set(args[1:]) <= set(requests.SYSTEMATIC):
-        return requests.systematic_questions(args[1:])
+    if args[:1] == ["systematic"] and set(args[1:]) <= set(asking.SYSTEMATIC):
+        return asking.systematic_questions(args[1:])
     sys.exit(__doc__.strip())
 
 
@@ -441,9 +441,9 @@ def main():
     program = next((word[7:] for word in words if word.startswith("--ours=")), "ours")
     if not words <= {"--room", "--without-ours", "--no-exception", f"--ours={program}"}:
         sys.exit(__doc__.strip())
-    kinds = [*requests.SMALL, *requests.MORE]
+    kinds = [*asking.SMALL, *asking.MORE]
     if "--without-ours" in words:
-        program, kinds = None, [*requests.SMALL, "open"]
+        program, kinds = None, [*asking.SMALL, "open"]
     elif not os.path.exists(os.path.join(BUILT, program)):
         sys.exit(f"compare: missing target/oracle/{program} (oracle/build makes it; --without-ours leaves it out)")
     questions = questions_of(args, kinds)

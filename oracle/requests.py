@@ -422,6 +422,29 @@ class Questions:
         asked = near + r.randrange(-2, 3) if r.random() < .98 else self.any_day()
         return " ".join(["coming", str(asked), *words[1:]])
 
+    def two_lists(self, days):
+        """A mask, and a desk's and a house's list, where they can touch the days."""
+        mask, *desk = self.calendar(days).split()
+        house = self.calendar([*days, *(day + self.r.choice((-365, 365)) for day in days)]).split()[1:]
+        return mask, " ".join(desk), " ".join(house)
+
+    def deskrun(self):
+        """A year, mostly one that a list has dates in, and the two lists."""
+        r = self.r
+        day = self.day()
+        mask, desk, house = self.two_lists([day])
+        year = r.choice((0, 1799, 1800, 2399, 2400, 4294967295)) if r.random() < .03 else date.fromordinal(day).year + r.choice((0, 0, 0, 0, 1, -1))
+        return f"deskrun {year} {desk} {house}"
+
+    def deskadjust(self):
+        """A day, often near the end of a year, and the two lists."""
+        r = self.r
+        day = self.any_day()
+        if r.random() < .6 and FIRST <= day <= LAST:
+            day = in_book(number(date.fromordinal(day).year, 12, 31) + r.randrange(-33, 34))
+        mask, desk, house = self.two_lists([day])
+        return f"deskadjust {day} {r.randrange(5)} {mask} {desk} {house}"
+
     def bytes(self):
         """A build as request bytes, often with something wrong in them."""
         r = self.r
@@ -456,7 +479,7 @@ class Questions:
 
 SMALL = ("next20 prev20 adjust monthend ismonthend advance immdate immcode code date nextdate nextdatecode nextcode "
          "nextcodecode dateadvance nth nextweekday dmonthend make fields difference compare times").split()
-MORE = ["open", "check", "lent", "coming", "bytes", "strange"]
+MORE = ["open", "check", "lent", "coming", "deskrun", "deskadjust", "bytes", "strange"]
 KINDS = ["build", "trace", *SMALL]
 
 

@@ -1,5 +1,5 @@
 //! Sums by hand of document 01, and what is refused.
-use heronspan::{imm, times, Calendar, Coming, Convention, Date, Refusal, Request, Rule, Schedule, Unit};
+use heronspan::{imm, times, Calendar, Coming, Convention, Date, DeskCalendar, Refusal, Request, Rule, Schedule, Unit};
 use std::cmp::Ordering;
 
 fn day(year: u32, month: u32, day: u32) -> Date {
@@ -52,6 +52,23 @@ fn calendars() {
     let next = easter.advance(day(2025, 4, 17), 1, Unit::Days, Convention::Following, false);
     assert_eq!(next, Ok(day(2025, 4, 22)));
     assert_eq!(Calendar::new(127, &[]), Err(Refusal::Calendar));
+}
+
+#[test]
+fn a_desk_over_the_house() {
+    let house = [day(2025, 12, 25), day(2025, 12, 26), day(2026, 1, 1), day(2026, 1, 2)];
+    let desk = [day(2025, 12, 25)];
+    let calendar = DeskCalendar::new(Calendar::WEEKENDS, &desk, &house).unwrap();
+    let own = calendar.run(2025).unwrap();
+    assert!(std::ptr::eq(own, &desk[..]));
+    assert!(std::ptr::eq(calendar.run(2026).unwrap(), &house[2..]));
+    assert_eq!(calendar.run(2024), Ok(&[][..]));
+    assert_eq!(calendar.run(1799), Err(Refusal::Book));
+    assert_eq!((calendar.check(1800), calendar.check(2400)), (Ok(()), Err(Refusal::Book)));
+    assert_eq!(calendar.adjust(day(2025, 12, 25), Convention::Following), Ok(day(2025, 12, 26)));
+    let none = DeskCalendar::new(Calendar::WEEKENDS, &[], &house).unwrap();
+    assert_eq!(none.adjust(day(2025, 12, 25), Convention::Following), Ok(day(2025, 12, 29)));
+    assert_eq!(DeskCalendar::new(0, &[], &[day(2026, 1, 2), day(2026, 1, 1)]), Err(Refusal::Calendar));
 }
 
 #[test]

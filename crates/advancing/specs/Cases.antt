@@ -12,7 +12,8 @@ use Rattle.date.specs.Civil.{leap, rowOf, monthLength, gone, sumTo, dayNumber, 
 use Rattle.date.specs.Date.{inBook, withinSpan, makeOf, monthIndex, inMonth, step, shiftDays, shiftMonths, shifted, advanceOf}
 use Rattle.calendar.specs.declared.Convention.the-variants.{Unadjusted, Following, Preceding, ModifiedPreceding}
 use Rattle.calendar.specs.Open.{weeklyClosed, member, isOpen, ascending, closedOk, calendarOk}
-use Rattle.calendar.specs.Adjust.{inSpan, takenOr, firstOpen, found, byConvention, adjusted, towards, openSteps, byUnit, advanced}
+use Rattle.calendar.specs.AnyCalendar as any
+use Rattle.calendar.specs.Adjust.{inSpan, takenOr, towards}
 use Rattle.calendar.specs.Calendar.{longest, tenorOk, advancedOf}
 use Rattle.advancing.specs.Dates.{days-are, weeks-are, months-are, years-are, days-add, months-add}
 use Rattle.advancing.specs.OpenDays.{none-negative, none-positive, open-days-third, open-days-return}
@@ -79,7 +80,7 @@ pub record CalendarCases : Type 0 where
   pub before-the-book : (advancedOf weekends [] (negsuc 0) Days Following false (dayNumber 1901 1 1) ≡ given (dayNumber 1900 12 31)) × (advancedOf weekends [] (pos 0) Days Following false (dayNumber 1900 12 31) ≡ refused BOOK)
 
 pub calendar-cases : CalendarCases
-unfolding need then leap rowOf monthLength gone sumTo dayNumber inBook withinSpan step weeklyClosed member isOpen ascending closedOk calendarOk inSpan takenOr firstOpen found byConvention adjusted towards openSteps byUnit advanced longest tenorOk advancedOf run
+unfolding need then leap rowOf monthLength gone sumTo dayNumber inBook withinSpan step weeklyClosed member isOpen ascending closedOk calendarOk inSpan takenOr any.firstOpen any.found any.byConvention any.adjusted towards any.openSteps any.byUnit any.advanced longest tenorOk advancedOf run
 calendar-cases =
     record {
       weekend-met = open-days-third weekends [] Following ModifiedPreceding false true (pos 3) (dayNumber 2025 5 29) (dayNumber 2025 6 3) refl Unadjusted false (pos 2) (dayNumber 2025 6 5) (none-negative refl refl) (omega arith) refl;

@@ -15,7 +15,8 @@ use Rattle.date.specs.Date.{inBook, withinSpan, makeOf, monthIndex, inMonth, st
 use Rattle.calendar.specs.declared.Convention.{Convention}
 use Rattle.calendar.specs.declared.Convention.the-variants.{Following}
 use Rattle.calendar.specs.Open.{weeklyClosed, member, isOpen, ascending, closedOk, calendarOk}
-use Rattle.calendar.specs.Adjust.{inSpan, takenOr, firstOpen, found, byConvention, adjusted, towards, openSteps, byUnit, advanced}
+use Rattle.calendar.specs.AnyCalendar as any
+use Rattle.calendar.specs.Adjust.{inSpan, takenOr, towards}
 use Rattle.calendar.specs.Calendar.{longest, tenorOk, advancedOf}
 use Rattle.advancing.specs.OpenDays.{Like, none-negative, none-positive}
 
@@ -51,7 +52,7 @@ apart : (m n : ℕ) → _≡_ {A = Answer ℕ} (given m) (given n) → m ≡ n
 apart m n h = one-given (given m) m n refl h
 
 pub needed : Needed
-unfolding DatesAdd OpenDaysAdd OpenDaysReturn need then leap rowOf monthLength gone sumTo dayNumber guess yearsGone monthIn dayIn placeOf fieldsAt inBook withinSpan makeOf monthIndex inMonth step shiftDays shiftMonths shifted advanceOf weeklyClosed member isOpen ascending closedOk calendarOk inSpan takenOr firstOpen found byConvention adjusted towards openSteps byUnit advanced longest tenorOk advancedOf
+unfolding DatesAdd OpenDaysAdd OpenDaysReturn need then leap rowOf monthLength gone sumTo dayNumber guess yearsGone monthIn dayIn placeOf fieldsAt inBook withinSpan makeOf monthIndex inMonth step shiftDays shiftMonths shifted advanceOf weeklyClosed member isOpen ascending closedOk calendarOk inSpan takenOr any.firstOpen any.found any.byConvention any.adjusted towards any.openSteps any.byUnit any.advanced longest tenorOk advancedOf
 needed =
     record {
       book-needed = λ f. never-both _ (dayNumber 2200 1 1) BOOK refl (sym (f (dayNumber 2199 12 31) (dayNumber 2200 1 1) (pos 1) (pos 0) refl refl));

@@ -18,7 +18,8 @@ use Rattle.date.specs.Date.{inBook}
 use Rattle.date.specs.Laws.Moves.{book-le, book-from}
 use Rattle.calendar.specs.declared.Convention.{Convention}
 use Rattle.calendar.specs.Open.{isOpen, calendarOk}
-use Rattle.calendar.specs.Adjust.{inSpan, openSteps, byUnit, advanced}
+use Rattle.calendar.specs.AnyCalendar as any
+use Rattle.calendar.specs.Adjust.{inSpan, openSteps}
 use Rattle.calendar.specs.Calendar.{longest, tenorOk, advancedOf}
 use Rattle.advancing.specs.Laws.Signs.{Sum, sum}
 use Rattle.advancing.specs.Laws.OpenSteps.{of-span, return, from-open, one-way}
@@ -71,7 +72,7 @@ module _ (mask : ℕ) (closed : List ℕ) where
       record { book = p .0; sound = q .0; size = leb-true (natAbs a) 366 (r .0) }
 
   as-steps : (v : Convention) (e : Bool) (a : ℤ) (day : ℕ) → Asked mask closed a day → advancedOf mask closed a Days v e day ≡ openSteps mask closed (isNegative a) (natAbs a) day
-  unfolding advancedOf advanced byUnit tenorOk longest
+  unfolding advancedOf any.advanced any.byUnit tenorOk longest
   as-steps v e a day g =
       sym
       (holds BOOK (inBook day) _ _ (g .book)
@@ -79,7 +80,7 @@ module _ (mask : ℕ) (closed : List ℕ) where
       (holds TENOR (leb (natAbs a) 366) _ _ (le-leb (natAbs a) 366 (g .size)) (holds BOOK (inSpan day) _ _ (book-span day (g .book)) refl))))
 
   back-steps : (a : ℤ) (day new : ℕ) → isOpen mask closed day ≡ true → inSpan day ≡ true → openSteps mask closed (isNegative a) (natAbs a) day ≡ given new → openSteps mask closed (isNegative (negℤ a)) (natAbs (negℤ a)) new ≡ given day
-  unfolding openSteps
+  unfolding any.openSteps
   back-steps (pos zero) day new o s p = sym p
   back-steps (pos (suc k)) day new o s p = return mask closed false (suc k) day new o s p
   back-steps (negsuc k) day new o s p = return mask closed true (suc k) day new o s p

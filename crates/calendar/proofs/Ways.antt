@@ -2,14 +2,14 @@
 -- Assumes nothing.
 use Prim.Native.Nat.{ℕ, suc, _+_, _-_, _%_, _≤_, _<_}
 use mathlib.Core.Path.{_≡_, refl, ap, sym, _∙_}
-use mathlib.Core.Bool.{Bool, true, false, not, _&&_}
+use mathlib.Core.Bool.{Bool, true, false, not, false≢true, _&&_}
 use mathlib.Core.List.{List}
 use native.Mathlib.Omega.{arith}
 use lib.ListN.{length, getD}
 use lib.Dec.{eqb, leb}
-use borrow.Author.Tests.{leb-true, eqb-true, eqb-false, eq-eqb, ne-eqb}
+use borrow.Author.Tests.{leb-true, eqb-true, eqb-false, eq-eqb, ne-eqb, not-true, not-false}
 use Rattle.refusal.specs.Answer.{Answer, given, refused, need, then, BOOK, TENOR}
-use Rattle.refusal.specs.Laws.Answers.{holds, passed, failed, need-given, then-given, then-refused, then-stepped, never-both, one-given, both}
+use Rattle.refusal.specs.Laws.Answers.{need-given, then-given, then-refused, both}
 use lib.IntN.{ℤ, natAbs}
 use Rattle.period.specs.Laws.Signed.{isNegative}
 use Rattle.period.specs.declared.Unit.{Unit}
@@ -17,7 +17,7 @@ use Rattle.date.specs.declared.Date.{Date}
 use Rattle.date.specs.declared.Dated.{Dated}
 use Rattle.date.specs.declared.Dated.the-variants.{Day, Refused}
 use Rattle.date.specs.Civil.{fieldsOf}
-use Rattle.date.specs.Date.{SPAN-FIRST, SPAN-LAST, dated, step, withinSpan}
+use Rattle.date.specs.Date.{dated, step, withinSpan}
 use Rattle.date.specs.Laws.Made.{given-day, refused-day}
 use Rattle.calendar.specs.declared.Convention.{Convention}
 use Rattle.calendar.specs.declared.Convention.the-variants.{Following, ModifiedFollowing, Preceding}
@@ -27,9 +27,12 @@ use Rattle.calendar.specs.declared.search.Placed.the-variants as placed-
 use Rattle.calendar.specs.Open.{weeklyClosed, isOpen, closedOk, calendarOk}
 use Rattle.calendar.specs.Inner.Places.{LowerBound}
 use Rattle.calendar.specs.Inner.Near.{OneMonth, Known, Adjusts}
-use Rattle.calendar.specs.Adjust.{inSpan, firstOpen, found, sameMonth, unlessLeft, modified, byConvention, adjusted, towards, openSteps, advanced}
+use Rattle.calendar.specs.AnyCalendar as any
+use Rattle.calendar.specs.Adjust.{inSpan, sameMonth, adjusted, towards, openSteps, advanced}
 use Rattle.calendar.specs.Calendar.{placed, tenorOk}
-use Rattle.calendar.specs.Laws.Search.{span-need, adjusted-first}
+use Rattle.calendar.specs.Laws.Search.{adjusted-first}
+use Rattle.calendar.specs.Laws.Guards.{barred, cleared}
+use Rattle.calendar.specs.Laws.Conventions.{span-one, within-given, within-refused, following-one, modified-kept, modified-left, modified-refused}
 use Rattle.calendar.proofs.Places.{strictly}
 use Rattle.calendar.proofs.OneMonth.{start-known, start-left}
 use Rattle.calendar.specs.Laws.Told.{ok-closed}
@@ -37,51 +40,19 @@ use Rattle.calendar.proofs.Members.{present, between, above-from, above
 
 -- ---- rows of the table
 module _ {A B : Type 0} where
-  need-then : (n : ℕ) (b : Bool) (x : Answer A) (f : A → Answer B) → need n b (then x f) ≡ then (need n b x) f
-  unfolding need then
-  need-then n true x f = refl
-  need-then n false x f = refl
-
   -- what a call handed on is what it answered
   pub then-same : (x y : Answer A) (f : A → Answer B) (r : Answer B) → r ≡ then x f → x ≡ y → r ≡ then y f
   then-same x y f r h e = h ∙ ap (λ (a : Answer A). then a f) e
 
-pub span-from : (t : Bool) (day : ℕ) → t ≡ inSpan day → t ≡ true → SPAN-FIRST ≤ day
-unfolding inSpan
-span-from t day p e = leb-true SPAN-FIRST day (both _ _ (sym p ∙ e) .0)
+-- ---- so many days from a day that lies in the span
+pub no-span : {A : Type 0} (t : Bool) (day : ℕ) → t ≡ inSpan day → not t ≡ true → inSpan day ≡ true → A
+no-span t day p e s = absurd (false≢true (sym (not-true t e) ∙ p ∙ s))
 
-pub span-to : (t : Bool) (day : ℕ) → t ≡ inSpan day → t ≡ true → day ≤ SPAN-LAST
-unfolding inSpan
-span-to t day p e = leb-true day SPAN-LAST (both (leb SPAN-FIRST day) _ (sym p ∙ e) .1)
+pub too-many : {A : Type 0} (tries : ℕ) → 31 < tries → tries ≤ 31 → A
+too-many tries h l = let bad : ⊥ = omega arith in absurd bad
 
-pub within-given : (n m : ℕ) → withinSpan n ≡ given m → m ≡ n
-within-given n m h = sym (one-given _ n m refl (need-given BOOK (inSpan n) (given n) m (sym (span-need n) ∙ h) .1))
-
-within-refused-go : {A : Type 0} (b : Bool) (n k : ℕ) (x : Answer A) → need BOOK b (given n) ≡ refused k → refused k ≡ need BOOK b x
-unfolding need
-within-refused-go true n k x h = absurd (never-both _ n k refl h)
-within-refused-go false n k x h = let q : BOOK ≡ k = cc in ap refused (sym q)
-
-pub within-refused : {A : Type 0} (n k : ℕ) (x : Answer A) → withinSpan n ≡ refused k → refused k ≡ need BOOK (inSpan n) x
-within-refused n k x h = within-refused-go (inSpan n) n k x (sym (span-need n) ∙ h)
-
--- ---- days that were found are days of the span, and so from day 1 on
-pub span-one : (t : Bool) (day : ℕ) → t ≡ inSpan day → t ≡ true → 1 ≤ day
-span-one t day p e = omega (arith, span-from t day p e)
-
-within-one : (n m : ℕ) → withinSpan n ≡ given m → 1 ≤ m
-within-one n m h =
-    rw (within-given n m h) (span-one _ n refl (need-given BOOK (inSpan n) (given n) m (sym (span-need n) ∙ h) .0))
-
-found-one : (mask : ℕ) (closed : List ℕ) (back : Bool) (day new : ℕ) → found mask closed back day ≡ given new → 1 ≤ new
-unfolding found
-found-one mask closed back day new h =
-    let s = then-stepped (firstOpen mask closed back 31 day) withinSpan new h in
-    within-one (s .value) new (s .to)
-
-pub following-one : (mask : ℕ) (closed : List ℕ) (day new : ℕ) → adjusted mask closed Following day ≡ given new → 1 ≤ new
-unfolding adjusted byConvention
-following-one mask closed day new h = found-one mask closed false day new (need-given BOOK (inSpan day) _ new h .1)
+pub this-way : (opens : ℕ → Bool) (b back : Bool) (tries day : ℕ) (r : Answer ℕ) → r ≡ any.firstOpen opens b tries day → back ≡ b → r ≡ any.firstOpen opens back tries day
+this-way opens b back tries day r h e = h ∙ ap (λ (w : Bool). any.firstOpen opens w tries day) (sym e)
 
 -- ---- a single day
 module _ (mask : ℕ) (closed : List ℕ) (day : ℕ) {w : Bool} (p : w ≡ weeklyClosed mask day) where
@@ -102,57 +73,27 @@ module _ (mask : ℕ) (closed : List ℕ) (day : ℕ) {w : Bool} (p : w ≡ week
   single-end at q l h ok =
       sym (is-open mask closed day (sym p ∙ q) (between closed at day (l .below ok) (above-end closed at day h)))
 
--- ---- a search in either direction, and the modified ones
-module _ (mask : ℕ) (closed : List ℕ) (back : Bool) (day : ℕ) (first : Dated) where
-  pub look-day : (x : Date) (r : Answer ℕ) (t : Bool) → t ≡ inSpan day → t ≡ true → dated first ≡ firstOpen mask closed back 31 day → first ≡ Day x → r ≡ withinSpan (x .day) → r ≡ need BOOK (inSpan day) (found mask closed back day)
-  unfolding found
-  look-day x r t p e h q w = passed _ _ _ _ _ p e (then-given _ (x .day) _ _ (given-day first x _ h q) w)
-
-  pub look-refused : (n : ℕ) (t : Bool) → t ≡ inSpan day → t ≡ true → dated first ≡ firstOpen mask closed back 31 day → first ≡ Refused n → refused n ≡ need BOOK (inSpan day) (found mask closed back day)
-  unfolding found
-  look-refused n t p e h q = passed _ _ _ _ _ p e (then-refused _ n _ (refused-day first n _ h q))
-
-  module _ (h : dated first ≡ need BOOK (inSpan day) (found mask closed back day)) where
-    pub modified-kept : (x : Date) (s : Bool) → first ≡ Day x → (1 ≤ day → 1 ≤ x .day → s ≡ sameMonth day (x .day)) → s ≡ true → given (x .day) ≡ need BOOK (inSpan day) (modified mask closed back day)
-    unfolding modified unlessLeft
-    modified-kept x s q p e =
-        let g = need-given BOOK _ _ (x .day) (given-day first x _ h q) in
-        let m = p (span-one _ day refl (g .0)) (found-one mask closed back day (x .day) (g .1)) in
-        holds BOOK _ _ _ (g .0) (then-given _ (x .day) _ _ (g .1) (rw (sym m ∙ e)))
-
-    pub modified-left : (x : Date) (s : Bool) (r : Answer ℕ) → first ≡ Day x → (1 ≤ day → 1 ≤ x .day → s ≡ sameMonth day (x .day)) → s ≡ false → r ≡ need BOOK (inSpan day) (found mask closed (not back) day) → r ≡ need BOOK (inSpan day) (modified mask closed back day)
-    unfolding modified unlessLeft need
-    modified-left x s r q p e z =
-        let g = need-given BOOK (inSpan day) _ (x .day) (given-day first x _ h q) in
-        let m = p (span-one _ day refl (g .0)) (found-one mask closed back day (x .day) (g .1)) in
-        let other : r ≡ found mask closed (not back) day = rw (g .0) at z in
-        holds BOOK _ _ _ (g .0) (then-given _ (x .day) _ _ (g .1) (rw (sym m ∙ e) other))
-
-    pub modified-refused : (n : ℕ) → first ≡ Refused n → refused n ≡ need BOOK (inSpan day) (modified mask closed back day)
-    unfolding modified
-    modified-refused n q = then-refused _ n _ (refused-day first n _ h q) ∙ sym (need-then BOOK (inSpan day) _ _)
-
 -- ---- Modified Following, where a month may be known
 not-before : (mask : ℕ) (closed : List ℕ) (day new : ℕ) → adjusted mask closed Following day ≡ given new → day ≤ new
 unfolding towards step
-not-before mask closed day new h = let f = adjusted-first mask closed false day new h in omega (arith, f .there)
+not-before mask closed day new h = let f = adjusted-first (isOpen mask closed) false day new h in omega (arith, f .there)
 
 module _ (mask : ℕ) (closed : List ℕ) (day : ℕ) (first : Dated) (h : dated first ≡ adjusted mask closed Following day) where
   pub follow-refused : (n : ℕ) → first ≡ Refused n → Adjusts mask closed ModifiedFollowing day (placed-is.Refused n)
-  unfolding placed Known adjusted byConvention
-  follow-refused n q = record { says = modified-refused mask closed false day first h n q; known = tt }
+  unfolding placed Known any.adjusted any.byConvention
+  follow-refused n q = record { says = modified-refused (isOpen mask closed) false day first h n q; known = tt }
 
   module _ (x : Date) (q : first ≡ Day x) where
     on : adjusted mask closed Following day ≡ given (x .day)
     on = given-day first x _ h q
 
     first-one : 1 ≤ day
-    unfolding adjusted
-    first-one = span-one _ day refl (need-given BOOK (inSpan day) _ (x .day) on .0)
+    unfolding any.adjusted
+    first-one = span-one day (need-given BOOK (inSpan day) _ (x .day) on .0)
 
     stays-in : sameMonth day (x .day) ≡ true → given (x .day) ≡ adjusted mask closed ModifiedFollowing day
-    unfolding adjusted byConvention
-    stays-in e = modified-kept mask closed false day first h x (sameMonth day (x .day)) q (λ a b. refl) e
+    unfolding any.adjusted any.byConvention
+    stays-in e = modified-kept (isOpen mask closed) false day first h x (sameMonth day (x .day)) q (λ a b. refl) e
 
     pub follow-known : (near : Near) → OneMonth (near .from) (near .to) → (r : Bool) → r ≡ (leb (near .from) day && leb (x .day) (near .to)) → r ≡ true → Adjusts mask closed ModifiedFollowing day (placed-is.Day (x .day) near)
     unfolding placed Known
@@ -165,7 +106,7 @@ module _ (mask : ℕ) (closed : List ℕ) (day : ℕ) (first : Dated) (h : dated
 
     module _ (s : ℕ) (p : 1 ≤ x .day → s ≡ x .day + 1 - fieldsOf (x .day) .day) where
       one : 1 ≤ x .day
-      one = following-one mask closed day (x .day) on
+      one = following-one (isOpen mask closed) day (x .day) on
 
       pub follow-split : (place : ℕ) → s ≤ day → Adjusts mask closed ModifiedFollowing day (placed-is.Day (x .day) (record { place = place; from = s; to = x .day }))
       unfolding placed Known
@@ -174,10 +115,10 @@ module _ (mask : ℕ) (closed : List ℕ) (day : ℕ) (first : Dated) (h : dated
           record { says = stays-in (m .alike day (x .day) l (not-before mask closed day (x .day) on) (omega arith)); known = m }
 
       pub follow-left : (from to : ℕ) → OneMonth from to → day < s → (other : Dated) → dated other ≡ adjusted mask closed Preceding day → (r : Placed) → (placed r ≡ dated other) × (OneMonth from to → Known r) → Adjusts mask closed ModifiedFollowing day r
-      unfolding adjusted byConvention
+      unfolding any.adjusted any.byConvention
       follow-left from to m l other z r w =
           record {
-            says = modified-left mask closed false day first h x (sameMonth day (x .day)) (placed r) q (λ a b. refl) (start-left (x .day) s one (p one) day first-one l) (w .0 ∙ z);
+            says = modified-left (isOpen mask closed) false day first h x (sameMonth day (x .day)) (placed r) q (λ a b. refl) (start-left (x .day) s one (p one) day first-one l) (w .0 ∙ z);
             known = w .1 m;
           }
 
@@ -187,7 +128,7 @@ module _ (mask : ℕ) (closed : List ℕ) (convention : Convention) (n : ℕ) (b
   beside-day x r q w = w ∙ ap (adjusted mask closed convention) (within-given n (x .day) (given-day beside x _ h q))
 
   pub beside-refused : (k : ℕ) → beside ≡ Refused k → refused k ≡ adjusted mask closed convention n
-  unfolding adjusted
+  unfolding any.adjusted
   beside-refused k q = within-refused n k _ (refused-day beside k _ h q)
 
 -- ---- open days one by one
@@ -199,7 +140,7 @@ steps-start = record { same = λ ok. refl }
 
 module _ {mask : ℕ} {closed : List ℕ} {back : Bool} {size day left at : ℕ} (g : Steps mask closed back size day left at) where
   turn : 0 < left → openSteps mask closed back left at ≡ then (adjusted mask closed (towards back) (step back at 1)) (openSteps mask closed back (left - 1))
-  unfolding openSteps
+  unfolding any.openSteps
   turn h = ap (λ (k : ℕ). openSteps mask closed back k at) (back-one left h)
     where
       back-one : (k : ℕ) → 0 < k → k ≡ suc (k - 1)
@@ -214,15 +155,15 @@ module _ {mask : ℕ} {closed : List ℕ} {back : Bool} {size day left at : ℕ}
     steps-refused n q ok = then-refused _ n _ (refused-day next n _ (e ok) q) ∙ sym (turn h) ∙ g .same ok
 
   pub steps-end : left ≤ 0 → closedOk closed ≡ true → given at ≡ openSteps mask closed back size day
-  unfolding openSteps
+  unfolding any.openSteps
   steps-end h ok = sym (ap (λ (k : ℕ). openSteps mask closed back k at) (none left h)) ∙ g .same ok
     where
       none : (k : ℕ) → k ≤ 0 → k ≡ 0
       none k l = omega arith
 
 -- ---- the calendar's check
-pub sound-closed : (mask : ℕ) (closed : List ℕ) (t : Bool) → t ≡ calendarOk mask closed → t ≡ true → closedOk closed ≡ true
-sound-closed mask closed t p e = ok-closed mask closed (sym p ∙ e)
+pub sound-closed : (mask : ℕ) (closed : List ℕ) (t : Bool) → t ≡ calendarOk mask closed → not t ≡ false → closedOk closed ≡ true
+sound-closed mask closed t p e = ok-closed mask closed (sym p ∙ not-false t e)
 
 pub shut-mask : (mask : ℕ) (closed : List ℕ) → mask % 128 ≡ 127 → false ≡ calendarOk mask closed
 unfolding calendarOk
@@ -237,12 +178,12 @@ module _ (length sent : ℤ) (unit : Unit) (size : ℕ) (short : Bool) (same : s
   test : short ≡ tenorOk (natAbs length) unit
   test = q ∙ ap (λ (k : ℕ). tenorOk k unit) (s ∙ ap natAbs same)
 
-  pub tenor-long : (x : Answer ℕ) → short ≡ false → refused TENOR ≡ need TENOR (tenorOk (natAbs length) unit) x
-  tenor-long x e = failed _ _ _ _ test e
+  pub tenor-long : (x : Answer ℕ) → not short ≡ true → refused TENOR ≡ need TENOR (tenorOk (natAbs length) unit) x
+  tenor-long x e = barred _ _ _ _ test e
 
-  pub tenor-fits : (mask : ℕ) (closed : List ℕ) (convention : Convention) (endOfMonth : Bool) (day : ℕ) (back : Bool) (r : Answer ℕ) → back ≡ isNegative sent → short ≡ true → r ≡ advanced mask closed back size unit convention endOfMonth day → r ≡ need TENOR (tenorOk (natAbs length) unit) (advanced mask closed (isNegative length) (natAbs length) unit convention endOfMonth day)
+  pub tenor-fits : (mask : ℕ) (closed : List ℕ) (convention : Convention) (endOfMonth : Bool) (day : ℕ) (back : Bool) (r : Answer ℕ) → back ≡ isNegative sent → not short ≡ false → r ≡ advanced mask closed back size unit convention endOfMonth day → r ≡ need TENOR (tenorOk (natAbs length) unit) (advanced mask closed (isNegative length) (natAbs length) unit convention endOfMonth day)
   tenor-fits mask closed convention endOfMonth day back r n e h =
-      passed _ _ _ _ _ test e
+      cleared _ _ _ _ _ test e
       (h
       ∙ ap (λ (b : Bool). advanced mask closed b size unit convention endOfMonth day) (n ∙ ap isNegative same)
       ∙ ap (λ (k : ℕ). advanced mask closed (isNegative length) k unit convention endOfMonth day) (s ∙ ap natAbs same))

@@ -11,7 +11,8 @@ use Rattle.date.specs.Civil.{leap, rowOf, monthLength, gone, sumTo, dayNumber, 
 use Rattle.date.specs.Date.{inBook, withinSpan, makeOf, lastOfMonth, monthIndex, inMonth, step, shiftDays, shiftMonths, shifted}
 use Rattle.calendar.specs.declared.Convention.the-variants.{Unadjusted, Following, ModifiedFollowing, Preceding, ModifiedPreceding}
 use Rattle.calendar.specs.Open.{weeklyClosed, member, isOpen, ascending, closedOk, calendarOk}
-use Rattle.calendar.specs.Adjust.{inSpan, takenOr, firstOpen, found, sameMonth, unlessLeft, modified, byConvention, adjusted, lastOpen, atMonthEnd, towards, openSteps, endAsked, landed, addMonths, addWeeks, byUnit, advanced}
+use Rattle.calendar.specs.AnyCalendar as any
+use Rattle.calendar.specs.Adjust.{inSpan, sameMonth, takenOr, unlessLeft, towards}
 use Rattle.calendar.specs.Calendar.{Sound, sound, checkOf, isOpenOf, adjustOf, lastOpenOf, unlessEmpty, isMonthEndOf, longest, tenorOk, advancedOf}
 
 -- 1 for yes and for a sound calendar, 0 for no
@@ -157,5 +158,5 @@ rows =
     []
 
 worked : lefts rows ≡ rights rows
-unfolding lefts rights told passed run need then leap rowOf monthLength gone sumTo dayNumber guess yearsGone monthIn dayIn placeOf fieldsAt inBook withinSpan makeOf lastOfMonth monthIndex inMonth step shiftDays shiftMonths shifted weeklyClosed member isOpen ascending closedOk calendarOk inSpan takenOr firstOpen found sameMonth unlessLeft modified byConvention adjusted lastOpen atMonthEnd towards openSteps endAsked landed addMonths addWeeks byUnit advanced checkOf isOpenOf adjustOf lastOpenOf unlessEmpty isMonthEndOf longest tenorOk advancedOf
+unfolding lefts rights told passed run need then leap rowOf monthLength gone sumTo dayNumber guess yearsGone monthIn dayIn placeOf fieldsAt inBook withinSpan makeOf lastOfMonth monthIndex inMonth step shiftDays shiftMonths shifted weeklyClosed member isOpen ascending closedOk calendarOk inSpan takenOr any.firstOpen any.found sameMonth unlessLeft any.modified any.byConvention any.adjusted any.lastOpen any.atMonthEnd towards any.openSteps any.endAsked any.landed any.addMonths any.addWeeks any.byUnit any.advanced checkOf isOpenOf adjustOf lastOpenOf unlessEmpty isMonthEndOf longest tenorOk advancedOf
 worked = refl

@@ -10,10 +10,17 @@ use period::Period;
 use period::Unit;
 use period::sign;
 
-// The search for open days from 1800 to 2399, for the crates above: on a list that they have checked.
+// The leaves: the list of closed dates, with its rule and the place of a day in it; the weekly mask; months.
+pub mod closed_dates;
+pub mod months;
+mod weekdays;
+// The search for open days, and the conventions over it.
+mod conventions;
+// For the crates above, on days from 1800 to 2399 and a list that they have checked.
+pub mod advances;
+pub mod month_ends;
+pub mod scan;
 pub mod search;
-// The list of closed dates: its rule, and the place of a day in it.
-mod closed_dates;
 
 pub enum Convention {
     Unadjusted,
@@ -58,39 +65,39 @@ pub fn is_short(size: u32, unit: Unit) -> bool
 pub fn check(mask: u8, closed: &[u32]) -> Checked
     ensures { λ r. ⌜ checked r ≡ checkOf mask (now (closed .entry)) ⌝ }
 {
-    if is_sound(mask, closed) {
-        return Checked::Sound;
+    if !is_sound(mask, closed) {
+        return Checked::Refused(refusal::CALENDAR);
     }
-    Checked::Refused(refusal::CALENDAR)
+    Checked::Sound
 }
 
 pub fn is_open(date: Date, mask: u8, closed: &[u32]) -> Decided
     ensures { λ r. ⌜ decided r ≡ isOpenOf mask (now (closed .entry)) (date .day) ⌝ }
 {
     let day = date.day;
-    if in_book(day) {
-        if is_sound(mask, closed) {
-            if search::is_open(day, mask, closed) {
-                return Decided::Yes;
-            }
-            return Decided::No;
-        }
+    if !in_book(day) {
+        return Decided::Refused(refusal::BOOK);
+    }
+    if !is_sound(mask, closed) {
         return Decided::Refused(refusal::CALENDAR);
     }
-    Decided::Refused(refusal::BOOK)
+    if scan::is_open(day, mask, closed) {
+        return Decided::Yes;
+    }
+    Decided::No
 }
 
 pub fn adjust(date: Date, convention: Convention, mask: u8, closed: &[u32]) -> Dated
     ensures { λ r. ⌜ dated r ≡ adjustOf mask (now (closed .entry)) convention (date .day) ⌝ }
 {
     let day = date.day;
-    if in_book(day) {
-        if is_sound(mask, closed) {
-            return search::adjust(day, convention, mask, closed);
-        }
+    if !in_book(day) {
+        return Dated::Refused(refusal::BOOK);
+    }
+    if !is_sound(mask, closed) {
         return Dated::Refused(refusal::CALENDAR);
     }
-    Dated::Refused(refusal::BOOK)
+    search::adjust(day, convention, mask, closed)
 }
 
 // The last open day of the date's month.
@@ -98,13 +105,13 @@ pub fn month_end(date: Date, mask: u8, closed: &[u32]) -> Dated
     ensures { λ r. ⌜ dated r ≡ lastOpenOf mask (now (closed .entry)) (date .day) ⌝ }
 {
     let day = date.day;
-    if in_book(day) {
-        if is_sound(mask, closed) {
-            return search::last_open(day, mask, closed);
-        }
+    if !in_book(day) {
+        return Dated::Refused(refusal::BOOK);
+    }
+    if !is_sound(mask, closed) {
         return Dated::Refused(refusal::CALENDAR);
     }
-    Dated::Refused(refusal::BOOK)
+    month_ends::last_open(day, mask, closed)
 }
 
 // Whether the date is the last open day of its month, or after it. The empty date is not.
@@ -113,18 +120,18 @@ pub fn is_month_end(date: Date, mask: u8, closed: &[u32]) -> Decided
 {
     let day = date.day;
     if day == 0 {
-        if is_sound(mask, closed) {
-            return Decided::No;
+        if !is_sound(mask, closed) {
+            return Decided::Refused(refusal::CALENDAR);
         }
+        return Decided::No;
+    }
+    if !in_book(day) {
+        return Decided::Refused(refusal::BOOK);
+    }
+    if !is_sound(mask, closed) {
         return Decided::Refused(refusal::CALENDAR);
     }
-    if in_book(day) {
-        if is_sound(mask, closed) {
-            return search::at_month_end(day, mask, closed);
-        }
-        return Decided::Refused(refusal::CALENDAR);
-    }
-    Decided::Refused(refusal::BOOK)
+    month_ends::at_month_end(day, mask, closed)
 }
 
 // The date moved by the period: days are open days, the other units are added and adjusted.
@@ -139,17 +146,17 @@ pub fn advance(
     ensures { λ r. ⌜ dated r ≡ advancedOf mask (now (closed .entry)) (tenor .length) (tenor .unit) convention monthend (date .day) ⌝ }
 {
     let day = date.day;
-    if in_book(day) {
-        if is_sound(mask, closed) {
-            let back = sign::is_negative(tenor.length);
-            let size = sign::size(tenor.length);
-            let unit = tenor.unit;
-            if is_short(size, unit) {
-                return search::advance(day, back, size, unit, convention, monthend, mask, closed);
-            }
-            return Dated::Refused(refusal::TENOR);
-        }
+    if !in_book(day) {
+        return Dated::Refused(refusal::BOOK);
+    }
+    if !is_sound(mask, closed) {
         return Dated::Refused(refusal::CALENDAR);
     }
-    Dated::Refused(refusal::BOOK)
+    let back = sign::is_negative(tenor.length);
+    let size = sign::size(tenor.length);
+    let unit = tenor.unit;
+    if !is_short(size, unit) {
+        return Dated::Refused(refusal::TENOR);
+    }
+    advances::advance(day, back, size, unit, convention, monthend, mask, closed)
 }

@@ -7,6 +7,8 @@ pub mod dates;
 pub mod builds;
 // Calendars.
 pub mod calendars;
+// A desk's closed dates over the house's.
+pub mod desks;
 // IMM dates and codes, and twentieths.
 pub mod cycles;
 // Differences and lengths.

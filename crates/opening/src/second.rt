@@ -10,7 +10,7 @@ ghost use Rattle.steps.specs.Generate.{comingTwentieth, isNear, putSeed, putCom
 ghost use Rattle.working.specs.Part.{Part, Begun, held};
 ghost use Rattle.opening.specs.Opening.{Opens};
 use crate::Opening;
-use calendar::search;
+use calendar::advances;
 use date::Dated;
 use period::sign;
 use steps::Request;
@@ -139,7 +139,7 @@ fn tenor_on(q: Request, closed: &[u32], day: u32) -> Dated
     let unit = tenor.unit;
     let convention = q.convention;
     let size = sign::size(tenor.length);
-    search::advance(
+    advances::advance(
         day,
         false,
         size,

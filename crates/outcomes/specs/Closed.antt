@@ -14,7 +14,8 @@ use Rattle.date.specs.Date.{inBook, withinSpan, makeOf, monthIndex, inMonth, st
 use Rattle.calendar.specs.declared.Convention.{Convention}
 use Rattle.calendar.specs.declared.Convention.the-variants.{Unadjusted, Following}
 use Rattle.calendar.specs.Open.{weeklyClosed, member, isOpen, ascending, closedOk, calendarOk}
-use Rattle.calendar.specs.Adjust.{inSpan, takenOr, firstOpen, found, sameMonth, byConvention, adjusted, atMonthEnd, towards, openSteps, addWeeks, byUnit, advanced}
+use Rattle.calendar.specs.AnyCalendar as any
+use Rattle.calendar.specs.Adjust.{inSpan, takenOr, sameMonth, towards}
 use Rattle.calendar.specs.Calendar.{longest, tenorOk}
 use Rattle.steps.specs.declared.Rule.{Rule}
 use Rattle.steps.specs.declared.Rule.the-variants.{Backward, Forward}
@@ -57,5 +58,5 @@ searches-closed : _≡_ {A = List ℕ}
     ∷ numberIn (asked Forward Weeks Unadjusted Unadjusted false 739314)
     ∷ [])
     (0 ∷ 13 ∷ 13 ∷ 13 ∷ 0 ∷ 0 ∷ 13 ∷ 0 ∷ [])
-unfolding asked numberIn number need then leap rowOf monthLength gone sumTo dayNumber guess yearsGone monthIn dayIn placeOf fieldsAt weekdayOf inBook withinSpan makeOf monthIndex inMonth step shiftDays shiftMonths shifted weeklyClosed member isOpen ascending closedOk calendarOk inSpan takenOr firstOpen found sameMonth byConvention adjusted atMonthEnd towards openSteps addWeeks byUnit advanced longest tenorOk ruleNumber oneOf isZero isBackward onTwentieths isCredit isOldCDS ruleUnder isNone ruleInForce paceBy paceOf numberOr firstRow isGiven anchorOk datesOk byRange byImm outOfRange notImm wrongRule firstOutside lastOutside monthendAllowed inDays shortEnd anchorRows firstRows lastRows rowsUnder inputRows lastDay seedOf candidateBy candidate isPast unlessSame unlessPast turnOf hasRoom put putUnless putNew onTurn lastTry walk candidates anchorOr putAnchor putPenultimate begun ended backwardEnd backwardFrom backward openingBy opening tenorOn putSeed putFirst putTwentieth second closingDay putClosing closing opened shut forwardEnd forwardFrom forward generateBy generate moved each between onFirst onLast onMiddle wednesdaysBy wednesdays unless firstMove lastMove monthEndMove middleMove seedAsked seedAtEnd adjustments meetAtEnd mergeEndIf mergeEnd meetAtFront mergeFrontIf mergeFront finish stepsOf admitted buildOf
+unfolding asked numberIn number need then leap rowOf monthLength gone sumTo dayNumber guess yearsGone monthIn dayIn placeOf fieldsAt weekdayOf inBook withinSpan makeOf monthIndex inMonth step shiftDays shiftMonths shifted weeklyClosed member isOpen ascending closedOk calendarOk inSpan takenOr any.firstOpen any.found sameMonth any.byConvention any.adjusted any.atMonthEnd towards any.openSteps any.addWeeks any.byUnit any.advanced longest tenorOk ruleNumber oneOf isZero isBackward onTwentieths isCredit isOldCDS ruleUnder isNone ruleInForce paceBy paceOf numberOr firstRow isGiven anchorOk datesOk byRange byImm outOfRange notImm wrongRule firstOutside lastOutside monthendAllowed inDays shortEnd anchorRows firstRows lastRows rowsUnder inputRows lastDay seedOf candidateBy candidate isPast unlessSame unlessPast turnOf hasRoom put putUnless putNew onTurn lastTry walk candidates anchorOr putAnchor putPenultimate begun ended backwardEnd backwardFrom backward openingBy opening tenorOn putSeed putFirst putTwentieth second closingDay putClosing closing opened shut forwardEnd forwardFrom forward generateBy generate moved each between onFirst onLast onMiddle wednesdaysBy wednesdays unless firstMove lastMove monthEndMove middleMove seedAsked seedAtEnd adjustments meetAtEnd mergeEndIf mergeEnd meetAtFront mergeFrontIf mergeFront finish stepsOf admitted buildOf
 searches-closed = refl

@@ -14,7 +14,8 @@ use Rattle.steps.specs.declared.Request.{Request}
 use Rattle.date.specs.Civil.{leap, rowOf, monthLength, gone, sumTo, dayNumber, guess, yearsGone, monthIn, dayIn, placeOf, fieldsAt, weekdayOf, daysUntil}
 use Rattle.date.specs.Date.{inBook, withinSpan, makeOf, lastOfMonth, monthIndex, inMonth, step, shiftDays, shiftMonths, shifted, nthWeekdayOf}
 use Rattle.calendar.specs.Open.{weeklyClosed, member, isOpen, ascending, closedOk, calendarOk}
-use Rattle.calendar.specs.Adjust.{inSpan, takenOr, firstOpen, found, sameMonth, unlessLeft, modified, byConvention, adjusted, lastOpen, atMonthEnd, towards, openSteps, endAsked, landed, addMonths, addWeeks, byUnit, advanced}
+use Rattle.calendar.specs.AnyCalendar as any
+use Rattle.calendar.specs.Adjust.{inSpan, takenOr, sameMonth, unlessLeft, towards}
 use Rattle.calendar.specs.Calendar.{longest, tenorOk}
 use Rattle.imm.specs.declared.codes.Code.{Code}
 use Rattle.imm.specs.Imm.{mainMonth, inCycle, isImm, isImmIn, thirdOf, orElse, cycleFrom, stride, nextFrom, nextOf, nextIn, letters, upper, placeIn, monthOf, isDigit, isPair, isCode, codeMonth, codeDigit, codeOf, codeIn, firstYear, dateFrom, dateOf, dateIn}
@@ -98,5 +99,5 @@ sums : _≡_ {A = List Sum}
     ∷ day (given (dayNumber 2035 3 21))
     ∷ code (given (record { letter = 90; digit = 53 }))
     ∷ [])
-unfolding ruleNumber oneOf isZero isBackward plain in-room quarterly need then leap rowOf monthLength gone sumTo dayNumber guess yearsGone monthIn dayIn placeOf fieldsAt weekdayOf daysUntil inBook withinSpan makeOf lastOfMonth monthIndex inMonth step shiftDays shiftMonths shifted nthWeekdayOf weeklyClosed member isOpen ascending closedOk calendarOk inSpan takenOr firstOpen found sameMonth unlessLeft modified byConvention adjusted lastOpen atMonthEnd towards openSteps endAsked landed addMonths addWeeks byUnit advanced longest tenorOk mainMonth inCycle isImm isImmIn thirdOf orElse cycleFrom stride nextFrom nextOf nextIn letters upper placeIn monthOf isDigit isPair isCode codeMonth codeDigit codeOf codeIn firstYear dateFrom dateOf dateIn onTwentieths inImmMonths isCredit isOldCDS ruleUnder isNone ruleInForce tenorUnder tenorInForce paceBy paceOf numberOr firstRow isGiven anchorOk datesOk byRange byImm outOfRange notImm wrongRule firstOutside lastOutside monthendAllowed inDays shortEnd anchorRows firstRows lastRows rowsUnder inputRows twentiethOf movedIf skipOf toImmMonth nextTwentieth previousTwentieth lastDay seedOf candidateBy candidate isPast unlessSame unlessPast turnOf hasRoom put putUnless putNew onTurn lastTry walk candidates anchorOr putAnchor zeroDates putPenultimate begun ended backwardEnd backwardFrom backward putEarlier creditOpening openingBy opening tenorOn putSeed putFirst farEnough isNear comingTwentieth putComing putTwentieth second closingDay putClosing closing opened shut forwardEnd forwardFrom forward generateBy generate thirdWednesday moved each between onFirst onLast onMiddle wednesdaysBy wednesdays unless firstMove lastMove monthEndMove middleMove seedAsked seedAtEnd adjustments meetAtEnd mergeEndIf mergeEnd meetAtFront mergeFrontIf mergeFront finish stepsOf admitted buildOf
+unfolding ruleNumber oneOf isZero isBackward plain in-room quarterly need then leap rowOf monthLength gone sumTo dayNumber guess yearsGone monthIn dayIn placeOf fieldsAt weekdayOf daysUntil inBook withinSpan makeOf lastOfMonth monthIndex inMonth step shiftDays shiftMonths shifted nthWeekdayOf weeklyClosed member isOpen ascending closedOk calendarOk inSpan takenOr any.firstOpen any.found sameMonth unlessLeft any.modified any.byConvention any.adjusted any.lastOpen any.atMonthEnd towards any.openSteps any.endAsked any.landed any.addMonths any.addWeeks any.byUnit any.advanced longest tenorOk mainMonth inCycle isImm isImmIn thirdOf orElse cycleFrom stride nextFrom nextOf nextIn letters upper placeIn monthOf isDigit isPair isCode codeMonth codeDigit codeOf codeIn firstYear dateFrom dateOf dateIn onTwentieths inImmMonths isCredit isOldCDS ruleUnder isNone ruleInForce tenorUnder tenorInForce paceBy paceOf numberOr firstRow isGiven anchorOk datesOk byRange byImm outOfRange notImm wrongRule firstOutside lastOutside monthendAllowed inDays shortEnd anchorRows firstRows lastRows rowsUnder inputRows twentiethOf movedIf skipOf toImmMonth nextTwentieth previousTwentieth lastDay seedOf candidateBy candidate isPast unlessSame unlessPast turnOf hasRoom put putUnless putNew onTurn lastTry walk candidates anchorOr putAnchor zeroDates putPenultimate begun ended backwardEnd backwardFrom backward putEarlier creditOpening openingBy opening tenorOn putSeed putFirst farEnough isNear comingTwentieth putComing putTwentieth second closingDay putClosing closing opened shut forwardEnd forwardFrom forward generateBy generate thirdWednesday moved each between onFirst onLast onMiddle wednesdaysBy wednesdays unless firstMove lastMove monthEndMove middleMove seedAsked seedAtEnd adjustments meetAtEnd mergeEndIf mergeEnd meetAtFront mergeFrontIf mergeFront finish stepsOf admitted buildOf
 sums = refl

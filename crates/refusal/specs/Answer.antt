@@ -62,6 +62,9 @@ REQUEST = 17
 abbrev pub NOTPLAIN : ℕ
 NOTPLAIN = 19
 
+abbrev pub FULL : ℕ
+FULL = 23
+
 abbrev pub SHORTEND : ℕ
 SHORTEND = 27
 

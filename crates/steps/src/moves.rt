@@ -8,6 +8,7 @@ use crate::Move;
 use crate::Request;
 use crate::rules;
 use calendar::Convention;
+use calendar::month_ends;
 use calendar::search;
 use date::Date;
 use date::Dated;
@@ -29,7 +30,7 @@ pub fn moved(day: u32, what: Move, mask: u8, closed: &[u32]) -> Dated
         Move::ThirdWednesdays => third_wednesday(day),
         Move::Adjust(convention) => search::adjust(day, convention, mask, closed),
         Move::MonthEnds => span::last_of_month(day),
-        Move::OpenMonthEnds => search::last_open(day, mask, closed),
+        Move::OpenMonthEnds => month_ends::last_open(day, mask, closed),
     }
 }
 

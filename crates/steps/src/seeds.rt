@@ -10,7 +10,7 @@ ghost use Rattle.steps.specs.Generate.{anchorOr};
 ghost use Rattle.steps.specs.Finish.{seedAtEnd};
 use crate::Seed;
 use calendar::Decided;
-use calendar::search;
+use calendar::month_ends;
 use date::civil;
 
 // An anchor, or the other date where it is absent.
@@ -70,7 +70,7 @@ pub fn seed_at_end(monthend: bool, seed: u32, mask: u8, closed: &[u32]) -> Decid
         if seed == 0 {
             return Decided::No;
         }
-        return search::at_month_end(seed, mask, closed);
+        return month_ends::at_month_end(seed, mask, closed);
     }
     Decided::No
 }

@@ -79,7 +79,7 @@ module _ (settled : Bool) (mask : ℕ) (closed : List ℕ) (convention : Convent
         compare-settle f =
             record {
               says = then-given _ held _ _ known (then-given _ b _ _ t (rw (ne-eqb held b e, f) refl));
-              learnt = (front-from mask closed convention b b (adjust-again mask closed convention day b t), month);
+              learnt = (front-from mask closed convention b b (adjust-again _ convention day b t), month);
             }
 
 -- ---- the k-th candidate

@@ -42,11 +42,7 @@ pub fn walk(
     let mut n = start;
     let mut k: u32 = 1;
     let mut front: u32 = 0;
-    let mut near = Near {
-        place: 0,
-        from: 1,
-        to: 0,
-    };
+    let mut near = Near::NOTHING;
     let mut newest = lists::newest(back, n, work);
     while k <= span::LAST {
         let t = candidates::try_candidate(

@@ -11,6 +11,7 @@ use Rattle.refusal.specs.Answer.{Answer, given, refused, then, BOOK}
 use Rattle.refusal.specs.Laws.Answers.{need-given, one-given, then-given, then-stepped, both}
 use Rattle.date.specs.Date.{step}
 use Rattle.calendar.specs.Open.{isOpen}
+use Rattle.calendar.specs.AnyCalendar as any
 use Rattle.calendar.specs.Adjust.{inSpan, towards, adjusted, openSteps}
 use Rattle.calendar.specs.Laws.Search.{adjusted-first, first-adjusted}
 use Rattle.calendar.specs.Laws.Stays.{adjust-again}
@@ -34,8 +35,8 @@ of-span n s = rw (le-leb 657072 n (s .low), le-leb n 876216 (s .high))
 module _ (mask : ℕ) (closed : List ℕ) where
   -- a day found is an open day of the span
   found-in : (back : Bool) (day new : ℕ) → adjusted mask closed (towards back) day ≡ given new → inSpan new ≡ true
-  unfolding adjusted
-  found-in back day new h = need-given BOOK (inSpan new) _ new (adjust-again mask closed (towards back) day new h) .0
+  unfolding any.adjusted
+  found-in back day new h = need-given BOOK (inSpan new) _ new (adjust-again (isOpen mask closed) (towards back) day new h) .0
 
   -- ---- steps add up
   after-then : (x : Answer ℕ) (f g : ℕ → Answer ℕ) → then (then x f) g ≡ then x (λ n. then (f n) g)
@@ -44,7 +45,7 @@ module _ (mask : ℕ) (closed : List ℕ) where
   after-then (refused n) f g = refl
 
   pub steps-add : (back : Bool) (k l day : ℕ) → openSteps mask closed back (k + l) day ≡ then (openSteps mask closed back k day) (openSteps mask closed back l)
-  unfolding openSteps then
+  unfolding any.openSteps then
   steps-add back zero l day = ap (λ (x : ℕ). openSteps mask closed back x day) (let e : 0 + l ≡ l = omega arith in e)
   steps-add back (suc k) l day =
       ap (λ (x : ℕ). openSteps mask closed back x day) (let e : suc k + l ≡ suc (k + l) = omega arith in e)
@@ -69,12 +70,12 @@ module _ (mask : ℕ) (closed : List ℕ) where
 
   one-back : (back : Bool) (day new : ℕ) → isOpen mask closed day ≡ true → inSpan day ≡ true → adjusted mask closed (towards back) (step back day 1) ≡ given new → adjusted mask closed (towards (not back)) (step (not back) new 1) ≡ given day
   one-back back day new o s h =
-      let f = adjusted-first mask closed back (step back day 1) new h in
+      let f = adjusted-first (isOpen mask closed) back (step back day 1) new h in
       let a = span-of day s in
       let b = span-of new (found-in back (step back day 1) new h) in
       let p : 1 ≤ day = omega (arith, a .low) in
       let q : 1 ≤ new = omega (arith, b .low) in
-      first-adjusted mask closed (not back) (step (not back) new 1) day
+      first-adjusted (isOpen mask closed) (not back) (step (not back) new 1) day
       (of-span _ (between back day new (f .steps) a b (f .there)))
       s
       (record {
@@ -87,11 +88,11 @@ module _ (mask : ℕ) (closed : List ℕ) where
 
   -- ---- and so do many
   pub return : (back : Bool) (k day new : ℕ) → isOpen mask closed day ≡ true → inSpan day ≡ true → openSteps mask closed back k day ≡ given new → openSteps mask closed (not back) k new ≡ given day
-  unfolding openSteps then
+  unfolding any.openSteps then
   return back zero day new o s h = sym h
   return back (suc k) day new o s h =
       let t = then-stepped (adjusted mask closed (towards back) (step back day 1)) (openSteps mask closed back k) new h in
-      let f = adjusted-first mask closed back (step back day 1) (t .value) (t .from) in
+      let f = adjusted-first (isOpen mask closed) back (step back day 1) (t .value) (t .from) in
       let r = return back k (t .value) new (f .is-open) (found-in back (step back day 1) (t .value) (t .from)) (t .to) in
       let w = one-back back day (t .value) o s (t .from) in
       ap (λ (x : ℕ). openSteps mask closed (not back) x new) (let e : suc k ≡ k + 1 = omega arith in e)
@@ -100,11 +101,11 @@ module _ (mask : ℕ) (closed : List ℕ) where
 
   -- an open day leads to open days
   steps-open : (back : Bool) (k day new : ℕ) → isOpen mask closed day ≡ true → inSpan day ≡ true → openSteps mask closed back k day ≡ given new → (isOpen mask closed new ≡ true) × (inSpan new ≡ true)
-  unfolding openSteps
+  unfolding any.openSteps
   steps-open back zero day new o s h = let e : day ≡ new = one-given _ day new refl h in (ap (isOpen mask closed) (sym e) ∙ o, ap inSpan (sym e) ∙ s)
   steps-open back (suc k) day new o s h =
       let t = then-stepped (adjusted mask closed (towards back) (step back day 1)) (openSteps mask closed back k) new h in
-      let f = adjusted-first mask closed back (step back day 1) (t .value) (t .from) in
+      let f = adjusted-first (isOpen mask closed) back (step back day 1) (t .value) (t .from) in
       steps-open back k (t .value) new (f .is-open) (found-in back (step back day 1) (t .value) (t .from)) (t .to)
 
   -- ---- two advances, and the one of their sum
@@ -118,13 +119,13 @@ module _ (mask : ℕ) (closed : List ℕ) where
   module _ (day new : ℕ) where
     -- no step in one of the two
     none-first : (b c : Bool) (k l j : ℕ) → k ≡ 0 → l ≡ j → openSteps mask closed b k day ≡ given new → openSteps mask closed c l new ≡ openSteps mask closed c j day
-    unfolding openSteps
+    unfolding any.openSteps
     none-first b c k l j z e p =
         let f : day ≡ new = one-given _ day new refl (ap (λ (x : ℕ). openSteps mask closed b x day) (sym z) ∙ p) in
         ap (openSteps mask closed c l) (sym f) ∙ ap (λ (x : ℕ). openSteps mask closed c x day) e
 
     none-second : (b c : Bool) (k l j : ℕ) → l ≡ 0 → k ≡ j → openSteps mask closed b k day ≡ given new → openSteps mask closed c l new ≡ openSteps mask closed b j day
-    unfolding openSteps
+    unfolding any.openSteps
     none-second b c k l j z e p =
         ap (λ (x : ℕ). openSteps mask closed c x new) z ∙ sym p ∙ ap (λ (x : ℕ). openSteps mask closed b x day) e
 

@@ -2,11 +2,11 @@
 -- Assumes nothing.
 use mir.Syntax.{w32}
 use mir.Val.{SFits}
-use Rattle.refusal.specs.Laws.Answers.{passed, failed}
 use Rattle.period.specs.Laws.Signed.{same32}
 use Rattle.date.specs.Date.{dated}
 use Rattle.calendar.specs.Calendar.{advancedOf}
 use Rattle.calendar.proofs.Ways.{sound-closed, tenor-long, tenor-fits}
+use Rattle.calendar.specs.Laws.Guards.{barred, cleared}
 use borrow.Author.Needs.{needs}
 use Rattle.calendar.proofs.advance.Statement.{statement}
 use Rattle.calendar.proofs.advance.Tie as tie
@@ -14,8 +14,18 @@ use Rattle.calendar.proofs.advance.Tie as tie
 in-book-requires : tie.Need-in-book-requires
 in-book-requires c κs = search needs
 
+returns : tie.Need-returns
+unfolding dated advancedOf
+returns c = barred _ _ _ _ (c .before .in-book .ensures) (c .if1 .taken)
+
 is-sound-requires : tie.Need-is-sound-requires
 is-sound-requires c κs = search needs
+
+returns-2 : tie.Need-returns-2
+unfolding dated advancedOf
+returns-2 c =
+    cleared _ _ _ _ _ (c .before .before .before .in-book .ensures) (c .before .before .if1 .left)
+    (barred _ _ _ _ (c .before .is-sound .ensures) (c .if2 .taken))
 
 is-negative-requires : tie.Need-is-negative-requires
 is-negative-requires c κs = search needs
@@ -26,55 +36,45 @@ size-requires c κs = search needs
 is-short-requires : tie.Need-is-short-requires
 is-short-requires c κs = search needs
 
-advance-requires : tie.Need-advance-requires
-advance-requires c κs = search needs
-
-returns : tie.Need-returns
-unfolding advancedOf
-returns c =
-    let short = c .before .before in
-    let told = short .before .before .before .before .before in
-    let sound = told .before in
-    let book = sound .before .before in
-    let fits : SFits w32 (book .before .before .args .tenor .length) = record { sfits = short .before .before .before .before .struct-told .given .0 .1 } in
-    passed _ _ _ _ _ (book .in-book .ensures) (sound .before .if1 .taken)
-    (passed _ _ _ _ _ (sound .is-sound .ensures) (told .if2 .taken)
-    (tenor-fits (book .before .before .args .tenor .length) _ _ _ _ (same32 _ fits) (short .before .size .ensures) (short .is-short .ensures) _ _ _ _ _ _ _ (short .before .before .before .is-negative .ensures) (c .before .if3 .taken)
-    (c .advance .ensures (sound-closed _ _ _ (sound .is-sound .ensures) (told .if2 .taken)))))
-
-returns-2 : tie.Need-returns-2
+returns-3 : tie.Need-returns-3
 unfolding dated advancedOf
-returns-2 c =
+returns-3 c =
     let short = c .before in
     let told = short .before .before .before .before .before in
     let sound = told .before in
     let book = sound .before .before in
     let fits : SFits w32 (book .before .before .args .tenor .length) = record { sfits = short .before .before .before .before .struct-told .given .0 .1 } in
-    passed _ _ _ _ _ (book .in-book .ensures) (sound .before .if1 .taken)
-    (passed _ _ _ _ _ (sound .is-sound .ensures) (told .if2 .taken)
-    (tenor-long (book .before .before .args .tenor .length) _ _ _ _ (same32 _ fits) (short .before .size .ensures) (short .is-short .ensures) _ (c .if3 .left)))
+    cleared _ _ _ _ _ (book .in-book .ensures) (sound .before .if1 .left)
+    (cleared _ _ _ _ _ (sound .is-sound .ensures) (told .if2 .left)
+    (tenor-long (book .before .before .args .tenor .length) _ _ _ _ (same32 _ fits) (short .before .size .ensures) (short .is-short .ensures) _ (c .if3 .taken)))
 
-returns-3 : tie.Need-returns-3
-unfolding dated advancedOf
-returns-3 c =
-    passed _ _ _ _ _ (c .before .before .before .in-book .ensures) (c .before .before .if1 .taken)
-    (failed _ _ _ _ (c .before .is-sound .ensures) (c .if2 .left))
+advance-requires : tie.Need-advance-requires
+advance-requires c κs = search needs
 
 returns-4 : tie.Need-returns-4
-unfolding dated advancedOf
-returns-4 c = failed _ _ _ _ (c .before .in-book .ensures) (c .if1 .left)
+unfolding advancedOf
+returns-4 c =
+    let short = c .before .before in
+    let told = short .before .before .before .before .before in
+    let sound = told .before in
+    let book = sound .before .before in
+    let fits : SFits w32 (book .before .before .args .tenor .length) = record { sfits = short .before .before .before .before .struct-told .given .0 .1 } in
+    cleared _ _ _ _ _ (book .in-book .ensures) (sound .before .if1 .left)
+    (cleared _ _ _ _ _ (sound .is-sound .ensures) (told .if2 .left)
+    (tenor-fits (book .before .before .args .tenor .length) _ _ _ _ (same32 _ fits) (short .before .size .ensures) (short .is-short .ensures) _ _ _ _ _ _ _ (short .before .before .before .is-negative .ensures) (c .before .if3 .left)
+    (c .advance .ensures (sound-closed _ _ _ (sound .is-sound .ensures) (told .if2 .left)))))
 
 pub advance-spec : {M : Type 1} → statement M
 advance-spec =
     tie.close
     (tie.spec
     in-book-requires
+    returns
     is-sound-requires
+    returns-2
     is-negative-requires
     size-requires
     is-short-requires
-    advance-requires
-    returns
-    returns-2
     returns-3
+    advance-requires
     returns-4)

@@ -2,9 +2,10 @@
 -- Assumes nothing.
 use mathlib.Core.Path.{refl}
 use borrow.Author.Tests.{eq-eqb, ne-eqb}
-use Rattle.refusal.specs.Laws.Answers.{holds, passed, failed}
+use Rattle.refusal.specs.Laws.Answers.{holds}
 use Rattle.calendar.specs.Calendar.{decided, unlessEmpty, isMonthEndOf}
 use Rattle.calendar.proofs.Ways.{sound-closed}
+use Rattle.calendar.specs.Laws.Guards.{barred, cleared}
 use borrow.Author.Needs.{needs}
 use Rattle.calendar.proofs.is_month_end.Statement.{statement}
 use Rattle.calendar.proofs.is_month_end.Tie as tie
@@ -16,43 +17,43 @@ returns : tie.Need-returns
 unfolding decided isMonthEndOf unlessEmpty
 returns c =
     rw (eq-eqb _ 0 (c .before .before .if1 .taken))
-    (holds _ _ _ _ refl (passed _ _ _ _ _ (c .before .is-sound .ensures) (c .if2 .taken) refl))
+    (holds _ _ _ _ refl (barred _ _ _ _ (c .before .is-sound .ensures) (c .if2 .taken)))
 
 returns-2 : tie.Need-returns-2
 unfolding decided isMonthEndOf unlessEmpty
 returns-2 c =
     rw (eq-eqb _ 0 (c .before .before .if1 .taken))
-    (holds _ _ _ _ refl (failed _ _ _ _ (c .before .is-sound .ensures) (c .if2 .left)))
+    (holds _ _ _ _ refl (cleared _ _ _ _ _ (c .before .is-sound .ensures) (c .if2 .left) refl))
 
 in-book-requires : tie.Need-in-book-requires
 in-book-requires c κs = search needs
 
-is-sound-requires-2 : tie.Need-is-sound-requires-2
-is-sound-requires-2 c κs = search needs
-
-at-month-end-requires : tie.Need-at-month-end-requires
-at-month-end-requires c κs = search needs
-
 returns-3 : tie.Need-returns-3
 unfolding decided isMonthEndOf unlessEmpty
 returns-3 c =
-    let sound = c .before .before .is-sound2 in
-    rw (ne-eqb _ 0 (c .before .before .before .before .before .if1 .left))
-    (passed _ _ _ _ _ (c .before .before .before .before .in-book .ensures) (c .before .before .before .if3 .taken)
-    (passed _ _ _ _ _ (sound .ensures) (c .before .if4 .taken)
-    (c .at-month-end .ensures (sound-closed _ _ _ (sound .ensures) (c .before .if4 .taken)))))
+    rw (ne-eqb _ 0 (c .before .before .if1 .left)) (barred _ _ _ _ (c .before .in-book .ensures) (c .if3 .taken))
+
+is-sound-requires-2 : tie.Need-is-sound-requires-2
+is-sound-requires-2 c κs = search needs
 
 returns-4 : tie.Need-returns-4
 unfolding decided isMonthEndOf unlessEmpty
 returns-4 c =
     rw (ne-eqb _ 0 (c .before .before .before .before .if1 .left))
-    (passed _ _ _ _ _ (c .before .before .before .in-book .ensures) (c .before .before .if3 .taken)
-    (failed _ _ _ _ (c .before .is-sound2 .ensures) (c .if4 .left)))
+    (cleared _ _ _ _ _ (c .before .before .before .in-book .ensures) (c .before .before .if3 .left)
+    (barred _ _ _ _ (c .before .is-sound2 .ensures) (c .if4 .taken)))
+
+at-month-end-requires : tie.Need-at-month-end-requires
+at-month-end-requires c κs = search needs
 
 returns-5 : tie.Need-returns-5
 unfolding decided isMonthEndOf unlessEmpty
 returns-5 c =
-    rw (ne-eqb _ 0 (c .before .before .if1 .left)) (failed _ _ _ _ (c .before .in-book .ensures) (c .if3 .left))
+    let sound = c .before .before .is-sound2 in
+    rw (ne-eqb _ 0 (c .before .before .before .before .before .if1 .left))
+    (cleared _ _ _ _ _ (c .before .before .before .before .in-book .ensures) (c .before .before .before .if3 .left)
+    (cleared _ _ _ _ _ (sound .ensures) (c .before .if4 .left)
+    (c .at-month-end .ensures (sound-closed _ _ _ (sound .ensures) (c .before .if4 .left)))))
 
 pub is-month-end-spec : {M : Type 1} → statement M
 is-month-end-spec =
@@ -62,8 +63,8 @@ is-month-end-spec =
     returns
     returns-2
     in-book-requires
-    is-sound-requires-2
-    at-month-end-requires
     returns-3
+    is-sound-requires-2
     returns-4
+    at-month-end-requires
     returns-5)

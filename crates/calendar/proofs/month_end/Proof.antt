@@ -1,9 +1,9 @@
 -- `calendar::month_end` meets its contract.
 -- Assumes nothing.
-use Rattle.refusal.specs.Laws.Answers.{passed, failed}
 use Rattle.date.specs.Date.{dated}
 use Rattle.calendar.specs.Calendar.{lastOpenOf}
 use Rattle.calendar.proofs.Ways.{sound-closed}
+use Rattle.calendar.specs.Laws.Guards.{barred, cleared}
 use borrow.Author.Needs.{needs}
 use Rattle.calendar.proofs.month_end.Statement.{statement}
 use Rattle.calendar.proofs.month_end.Tie as tie
@@ -11,32 +11,32 @@ use Rattle.calendar.proofs.month_end.Tie as tie
 in-book-requires : tie.Need-in-book-requires
 in-book-requires c κs = search needs
 
+returns : tie.Need-returns
+unfolding dated lastOpenOf
+returns c = barred _ _ _ _ (c .before .in-book .ensures) (c .if1 .taken)
+
 is-sound-requires : tie.Need-is-sound-requires
 is-sound-requires c κs = search needs
-
-last-open-requires : tie.Need-last-open-requires
-last-open-requires c κs = search needs
-
-returns : tie.Need-returns
-unfolding lastOpenOf
-returns c =
-    let sound = c .before .before .is-sound in
-    let book = c .before .before .before .before .in-book in
-    passed _ _ _ _ _ (book .ensures) (c .before .before .before .if1 .taken)
-    (passed _ _ _ _ _ (sound .ensures) (c .before .if2 .taken)
-    (c .last-open .ensures (sound-closed _ _ _ (sound .ensures) (c .before .if2 .taken))))
 
 returns-2 : tie.Need-returns-2
 unfolding dated lastOpenOf
 returns-2 c =
-    passed _ _ _ _ _ (c .before .before .before .in-book .ensures) (c .before .before .if1 .taken)
-    (failed _ _ _ _ (c .before .is-sound .ensures) (c .if2 .left))
+    cleared _ _ _ _ _ (c .before .before .before .in-book .ensures) (c .before .before .if1 .left)
+    (barred _ _ _ _ (c .before .is-sound .ensures) (c .if2 .taken))
+
+last-open-requires : tie.Need-last-open-requires
+last-open-requires c κs = search needs
 
 returns-3 : tie.Need-returns-3
-unfolding dated lastOpenOf
-returns-3 c = failed _ _ _ _ (c .before .in-book .ensures) (c .if1 .left)
+unfolding lastOpenOf
+returns-3 c =
+    let sound = c .before .before .is-sound in
+    let book = c .before .before .before .before .in-book in
+    cleared _ _ _ _ _ (book .ensures) (c .before .before .before .if1 .left)
+    (cleared _ _ _ _ _ (sound .ensures) (c .before .if2 .left)
+    (c .last-open .ensures (sound-closed _ _ _ (sound .ensures) (c .before .if2 .left))))
 
 pub month-end-spec : {M : Type 1} → statement M
 month-end-spec =
     tie.close
-    (tie.spec in-book-requires is-sound-requires last-open-requires returns returns-2 returns-3)
+    (tie.spec in-book-requires returns is-sound-requires returns-2 last-open-requires returns-3)

@@ -2,11 +2,14 @@
 -- Assumes nothing.
 use Prim.Native.Nat.{ℕ, zero, suc}
 use mathlib.Core.Path.{_≡_, refl}
+use mathlib.Core.Bool.{true}
 use mathlib.Core.List.{List, [], _∷_}
 use native.Mathlib.Omega.{arith}
 use lib.ListN.{length}
 use Rattle.calendar.specs.declared.Convention.{Convention}
 use Rattle.calendar.specs.declared.Convention.the-variants.{Unadjusted}
+use Rattle.calendar.specs.Open.{member, isOpen}
+use Rattle.calendar.specs.Laws.Mask.{no-weekday}
 use Rattle.calendar.specs.Adjust.{adjusted}
 use Rattle.calendar.specs.Laws.Stays.{all-same}
 
@@ -15,10 +18,14 @@ conventionOn zero [] convention = Unadjusted
 conventionOn zero (x ∷ xs) convention = convention
 conventionOn (suc m) closed convention = convention
 
+never-closed : (day : ℕ) → isOpen 0 [] day ≡ true
+unfolding isOpen member
+never-closed day = rw (no-weekday day) refl
+
 -- it adjusts every day as the convention itself does
 pub on-same : (mask : ℕ) (closed : List ℕ) (convention : Convention) → adjusted mask closed (conventionOn mask closed convention) ≡ adjusted mask closed convention
 unfolding conventionOn
-on-same zero [] convention = all-same 0 [] refl refl Unadjusted convention
+on-same zero [] convention = all-same (isOpen 0 []) never-closed Unadjusted convention
 on-same zero (x ∷ xs) convention = refl
 on-same (suc m) closed convention = refl
 

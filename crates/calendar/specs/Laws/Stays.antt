@@ -1,33 +1,28 @@
--- An open day is its own adjusted date, whatever the convention, and so an adjusted date is its own.
+-- An open day is its own adjusted date, whatever the calendar and the convention, and so an adjusted date is its own.
 -- Assumes nothing.
 use Prim.Native.Nat.{ℕ}
 use mathlib.Core.Path.{_≡_, refl, sym, ap, _∙_}
 use mathlib.Core.Bool.{Bool, true, false, not}
-use mathlib.Core.List.{List, [], _∷_}
-use native.Mathlib.Omega.{arith}
-use lib.ListN.{length}
 use borrow.Author.Tests.{eq-eqb}
 use Rattle.refusal.specs.Answer.{given, need, then, BOOK}
 use Rattle.refusal.specs.Laws.Answers.{need-given, holds, one-given, then-stepped}
 use Rattle.date.specs.Date.{withinSpan, monthIndex}
 use Rattle.calendar.specs.declared.Convention.{Convention}
 use Rattle.calendar.specs.declared.Convention.the-variants.{Unadjusted, Following, ModifiedFollowing, Preceding, ModifiedPreceding}
-use Rattle.calendar.specs.Open.{member, isOpen}
-use Rattle.calendar.specs.Laws.Mask.{no-weekday}
-use Rattle.calendar.specs.Adjust.{inSpan, firstOpen, found, sameMonth, unlessLeft, modified, byConvention, adjusted}
+use Rattle.calendar.specs.AnyCalendar.{inSpan, firstOpen, found, sameMonth, unlessLeft, modified, byConvention, adjusted}
 use Rattle.calendar.specs.Laws.Search.{found-first, turn-open, span-need, span-given}
 
-module _ (mask : ℕ) (closed : List ℕ) (day : ℕ) (open-day : isOpen mask closed day ≡ true) where
+module _ (opens : ℕ → Bool) (day : ℕ) (open-day : opens day ≡ true) where
   module _ (s : inSpan day ≡ true) where
-    found-there : (back : Bool) → found mask closed back day ≡ given day
+    found-there : (back : Bool) → found opens back day ≡ given day
     unfolding found then
-    found-there back = rw (turn-open mask closed back 30 day open-day) (span-given day s)
+    found-there back = rw (turn-open opens back 30 day open-day) (span-given day s)
 
-    stays-modified : (back : Bool) → modified mask closed back day ≡ given day
+    stays-modified : (back : Bool) → modified opens back day ≡ given day
     unfolding modified then sameMonth unlessLeft
     stays-modified back = rw (found-there back, eq-eqb (monthIndex day) (monthIndex day) refl)
 
-    stays : (convention : Convention) → byConvention mask closed convention day ≡ given day
+    stays : (convention : Convention) → byConvention opens convention day ≡ given day
     unfolding byConvention
     stays Unadjusted = refl
     stays Following = found-there false
@@ -35,57 +30,51 @@ module _ (mask : ℕ) (closed : List ℕ) (day : ℕ) (open-day : isOpen mask cl
     stays Preceding = found-there true
     stays ModifiedPreceding = stays-modified true
 
-  by-span : (b : Bool) → inSpan day ≡ b → (convention : Convention) → need BOOK b (byConvention mask closed convention day) ≡ need BOOK b (given day)
+  by-span : (b : Bool) → inSpan day ≡ b → (convention : Convention) → need BOOK b (byConvention opens convention day) ≡ need BOOK b (given day)
   unfolding need
   by-span true s convention = stays s convention
   by-span false s convention = refl
 
-  pub open-stays : (convention : Convention) → adjusted mask closed convention day ≡ withinSpan day
+  pub open-stays : (convention : Convention) → adjusted opens convention day ≡ withinSpan day
   unfolding adjusted
   open-stays convention = by-span (inSpan day) refl convention ∙ sym (span-need day)
 
-never-closed : (mask day : ℕ) → mask ≡ 0 → isOpen mask [] day ≡ true
-unfolding isOpen member
-never-closed mask day e = rw (e, no-weekday day) refl
-
 -- where no day is closed every convention does the same
-pub all-same : (mask : ℕ) (closed : List ℕ) → mask ≡ 0 → length closed ≡ 0 → (a b : Convention) → adjusted mask closed a ≡ adjusted mask closed b
-all-same mask (x ∷ xs) e h a b = let bad : ⊥ = omega arith in absurd bad
-all-same mask [] e h a b =
-    λ i day. (open-stays mask [] day (never-closed mask day e) a ∙ sym (open-stays mask [] day (never-closed mask day e) b)) i
+pub all-same : (opens : ℕ → Bool) → ((day : ℕ) → opens day ≡ true) → (a b : Convention) → adjusted opens a ≡ adjusted opens b
+all-same opens never a b = λ i day. (open-stays opens day (never day) a ∙ sym (open-stays opens day (never day) b)) i
 
 -- ---- an adjusted date stays
-module _ (mask : ℕ) (closed : List ℕ) where
+module _ (opens : ℕ → Bool) where
   -- the day that a search gives is an open day of the span
-  found-open : (back : Bool) (day new : ℕ) → found mask closed back day ≡ given new → (inSpan new ≡ true) × (isOpen mask closed new ≡ true)
+  found-open : (back : Bool) (day new : ℕ) → found opens back day ≡ given new → (inSpan new ≡ true) × (opens new ≡ true)
   unfolding found
   found-open back day new h =
-      let s = then-stepped (firstOpen mask closed back 31 day) withinSpan new h in
+      let s = then-stepped (firstOpen opens back 31 day) withinSpan new h in
       let n = need-given BOOK (inSpan (s .value)) (given (s .value)) new (sym (span-need (s .value)) ∙ s .to) in
       let e : s .value ≡ new = one-given _ (s .value) new refl (n .1) in
-      (ap inSpan (sym e) ∙ n .0, found-first mask closed back 31 day new (s .from ∙ ap given e) .is-open)
+      (ap inSpan (sym e) ∙ n .0, found-first opens back 31 day new (s .from ∙ ap given e) .is-open)
 
-  left-open : (b back : Bool) (day one new : ℕ) → found mask closed back day ≡ given one → unlessLeft b day one (found mask closed (not back)) ≡ given new → (inSpan new ≡ true) × (isOpen mask closed new ≡ true)
+  left-open : (b back : Bool) (day one new : ℕ) → found opens back day ≡ given one → unlessLeft b day one (found opens (not back)) ≡ given new → (inSpan new ≡ true) × (opens new ≡ true)
   unfolding unlessLeft
   left-open true back day one new f h = found-open back day new (f ∙ h)
   left-open false back day one new f h = found-open (not back) day new h
 
-  modified-open : (back : Bool) (day new : ℕ) → modified mask closed back day ≡ given new → (inSpan new ≡ true) × (isOpen mask closed new ≡ true)
+  modified-open : (back : Bool) (day new : ℕ) → modified opens back day ≡ given new → (inSpan new ≡ true) × (opens new ≡ true)
   unfolding modified
   modified-open back day new h =
-      let s = then-stepped (found mask closed back day) _ new h in
+      let s = then-stepped (found opens back day) _ new h in
       left-open (sameMonth day (s .value)) back day (s .value) new (s .from) (s .to)
 
-  open-again : (convention : Convention) (new : ℕ) → (inSpan new ≡ true) × (isOpen mask closed new ≡ true) → adjusted mask closed convention new ≡ given new
-  open-again convention new o = open-stays mask closed new (o .1) convention ∙ span-given new (o .0)
+  open-again : (convention : Convention) (new : ℕ) → (inSpan new ≡ true) × (opens new ≡ true) → adjusted opens convention new ≡ given new
+  open-again convention new o = open-stays opens new (o .1) convention ∙ span-given new (o .0)
 
-  same-again : (day new : ℕ) → inSpan day ≡ true → byConvention mask closed Unadjusted day ≡ given new → adjusted mask closed Unadjusted new ≡ given new
+  same-again : (day new : ℕ) → inSpan day ≡ true → byConvention opens Unadjusted day ≡ given new → adjusted opens Unadjusted new ≡ given new
   unfolding adjusted byConvention
   same-again day new s h =
       let e : day ≡ new = one-given _ day new refl h in
       sym (holds BOOK (inSpan new) (given new) (given new) (ap inSpan (sym e) ∙ s) refl)
 
-  again : (convention : Convention) (day new : ℕ) → inSpan day ≡ true → byConvention mask closed convention day ≡ given new → adjusted mask closed convention new ≡ given new
+  again : (convention : Convention) (day new : ℕ) → inSpan day ≡ true → byConvention opens convention day ≡ given new → adjusted opens convention new ≡ given new
   unfolding byConvention
   again Unadjusted day new s h = same-again day new s h
   again Following day new s h = open-again Following new (found-open false day new h)
@@ -94,8 +83,8 @@ module _ (mask : ℕ) (closed : List ℕ) where
   again ModifiedPreceding day new s h = open-again ModifiedPreceding new (modified-open true day new h)
 
 -- an adjusted date stays under the same convention
-pub adjust-again : (mask : ℕ) (closed : List ℕ) (convention : Convention) (day new : ℕ) → adjusted mask closed convention day ≡ given new → adjusted mask closed convention new ≡ given new
+pub adjust-again : (opens : ℕ → Bool) (convention : Convention) (day new : ℕ) → adjusted opens convention day ≡ given new → adjusted opens convention new ≡ given new
 unfolding adjusted
-adjust-again mask closed convention day new h =
-    let n = need-given BOOK (inSpan day) (byConvention mask closed convention day) new h in
-    again mask closed convention day new (n .0) (n .1)
+adjust-again opens convention day new h =
+    let n = need-given BOOK (inSpan day) (byConvention opens convention day) new h in
+    again opens convention day new (n .0) (n .1)

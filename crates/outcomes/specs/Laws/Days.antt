@@ -15,6 +15,7 @@ use Rattle.date.specs.Laws.Moves.{book-from, book-le}
 use Rattle.imm.specs.Laws.Order.{month-le}
 use Rattle.calendar.specs.declared.Convention.{Convention}
 use Rattle.calendar.specs.declared.Convention.the-variants.{Following, Preceding}
+use Rattle.calendar.specs.AnyCalendar as any
 use Rattle.calendar.specs.Adjust.{inSpan, adjusted, lastOpen, atMonthEnd}
 use Rattle.outcomes.specs.Laws.Span.{InSpan, le-or-lt, month-span, month-of, month-there, since}
 use Rattle.outcomes.specs.Late.{Fine, Any, gives, steps, weaker, tested}
@@ -107,14 +108,14 @@ module _ (m d : ℕ) (s : m ≤ 1000) (a : At m d) where
 
       -- the calendar's month end, and whether a date is at month end
       pub open-end-fine : c → Fine c (At (m + 62)) (lastOpen mask closed d)
-      unfolding lastOpen
+      unfolding any.lastOpen
       open-end-fine h =
           steps _ last-fine (λ r i.
           let b = month-close r i in
           weaker (adjusted-fine mask closed Preceding r (λ _. h) (at-wide (m + 31) r (omega arith) b)) (λ z j. at-more (m + 31 + 31) (m + 62) z (omega arith) (at-close (m + 31) 31 r z b j)))
 
       pub end-fine : c → Fine c Any (atMonthEnd mask closed d)
-      unfolding atMonthEnd
+      unfolding any.atMonthEnd
       end-fine h =
           tested (inSpan d) (wide-span d (at-wide m d (omega arith) a))
           (steps _ (adjusted-fine mask closed Following (d + 1) (λ _. h) (at-wide (m + 1) (d + 1) (omega arith) (record { low = omega (arith, a .low); high = omega (arith, a .high) }))) (λ next i. gives _ tt))

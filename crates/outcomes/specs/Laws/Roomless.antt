@@ -15,7 +15,8 @@ use Rattle.date.specs.Date.{withinSpan, makeOf, lastOfMonth, inMonth, step, shi
 use Rattle.calendar.specs.declared.Convention.{Convention}
 use Rattle.calendar.specs.declared.Convention.the-variants.{Unadjusted, Following, ModifiedFollowing, Preceding, ModifiedPreceding}
 use Rattle.calendar.specs.Open.{isOpen}
-use Rattle.calendar.specs.Adjust.{takenOr, firstOpen, found, sameMonth, unlessLeft, modified, byConvention, adjusted, lastOpen, atMonthEnd, openSteps, endAsked, landed, addMonths, addWeeks, byUnit, advanced}
+use Rattle.calendar.specs.AnyCalendar as any
+use Rattle.calendar.specs.Adjust.{takenOr, firstOpen, found, sameMonth, unlessLeft, modified, byConvention, adjusted, lastOpen, atMonthEnd, openSteps, endAsked, landed, byUnit}
 use Rattle.steps.specs.declared.Rule.{Rule}
 use Rattle.steps.specs.declared.Rule.the-variants.{ThirdWednesday, ThirdWednesdayInclusive}
 use Rattle.steps.specs.declared.Request.{Request}
@@ -87,7 +88,7 @@ nth n w m y = book _ (book _ (book _ (book _ (steps _ (made y m 1) (λ first. ma
 -- ---- the calendar
 module _ (mask : ℕ) (closed : List ℕ) where
   search-free : (back : Bool) (left day : ℕ) → Free (firstOpen mask closed back left day)
-  unfolding firstOpen takenOr
+  unfolding any.firstOpen takenOr
   search-free back zero day = refuses CLOSED (λ e. omega arith)
   search-free back (suc left) day = by (isOpen mask closed day) (search-free back left (step back day 1))
     where
@@ -96,11 +97,11 @@ module _ (mask : ℕ) (closed : List ℕ) where
       by false u = u
 
   find : (back : Bool) (day : ℕ) → Free (found mask closed back day)
-  unfolding found
+  unfolding any.found
   find back day = steps _ (search-free back 31 day) (λ r. within r)
 
   modify : (back : Bool) (day : ℕ) → Free (modified mask closed back day)
-  unfolding modified unlessLeft
+  unfolding any.modified unlessLeft
   modify back day = steps _ (find back day) (λ new. by (sameMonth day new) new)
     where
       by : (b : Bool) (new : ℕ) → Free (unlessLeft b day new (found mask closed (not back)))
@@ -108,7 +109,7 @@ module _ (mask : ℕ) (closed : List ℕ) where
       by false new = find (not back) day
 
   convene : (convention : Convention) (day : ℕ) → Free (byConvention mask closed convention day)
-  unfolding byConvention
+  unfolding any.byConvention
   convene Unadjusted day = gives day
   convene Following day = find false day
   convene ModifiedFollowing day = modify false day
@@ -116,34 +117,34 @@ module _ (mask : ℕ) (closed : List ℕ) where
   convene ModifiedPreceding day = modify true day
 
   pub adjust : (convention : Convention) (day : ℕ) → Free (adjusted mask closed convention day)
-  unfolding adjusted
+  unfolding any.adjusted
   adjust convention day = book _ (convene convention day)
 
   last-open : (day : ℕ) → Free (lastOpen mask closed day)
-  unfolding lastOpen
+  unfolding any.lastOpen
   last-open day = steps _ (last day) (λ r. adjust Preceding r)
 
   month-end : (day : ℕ) → Free (atMonthEnd mask closed day)
-  unfolding atMonthEnd
+  unfolding any.atMonthEnd
   month-end day = book _ (steps _ (adjust Following (day + 1)) (λ next. gives _))
 
   open-steps : (back : Bool) (size day : ℕ) → Free (openSteps mask closed back size day)
-  unfolding openSteps
+  unfolding any.openSteps
   open-steps back zero day = gives day
   open-steps back (suc size) day = steps _ (adjust _ _) (λ r. open-steps back size r)
 
   asked : (b : Bool) (day : ℕ) → Free (endAsked mask closed b day)
-  unfolding endAsked
+  unfolding any.endAsked
   asked false day = gives false
   asked true day = month-end day
 
   land : (convention : Convention) (day : ℕ) (b : Bool) → Free (landed mask closed convention day b)
-  unfolding landed
+  unfolding any.landed
   land convention day true = last-open day
   land convention day false = adjust convention day
 
   unit : (back : Bool) (size : ℕ) (u : TimeUnit) (convention : Convention) (monthend : Bool) (day : ℕ) → Free (byUnit mask closed back size u convention monthend day)
-  unfolding byUnit addWeeks addMonths
+  unfolding any.byUnit any.addWeeks any.addMonths
   unit back size Days convention monthend day = open-steps back size day
   unit back size Weeks convention monthend day = steps _ (shift day back size Weeks) (λ r. adjust convention r)
   unit back size Months convention monthend day = steps _ (shift day back size Months) (λ r. steps _ (asked monthend day) (λ b. land convention r b))
@@ -234,7 +235,7 @@ closing-day false rule day = gives day
 -- ---- a request's steps
 module _ (q : Request) (closed : List ℕ) where
   pub tenor-free : (day : ℕ) → Free (tenorOn q closed day)
-  unfolding tenorOn advanced
+  unfolding tenorOn any.advanced
   tenor-free day = book _ (unit (q .mask) closed false _ (q .tenor .unit) (q .convention) (q .monthend) day)
 
   merged : (b : Bool) (ds fs : List ℕ) → Free (mergeFrontIf b ds fs)

@@ -14,6 +14,7 @@ use Rattle.date.specs.Laws.Moves.{span-in, step-le}
 use Rattle.calendar.specs.declared.Convention.{Convention}
 use Rattle.calendar.specs.declared.Convention.the-variants.{Unadjusted, Following, ModifiedFollowing, Preceding, ModifiedPreceding}
 use Rattle.calendar.specs.Open.{isOpen}
+use Rattle.calendar.specs.AnyCalendar as any
 use Rattle.calendar.specs.Adjust.{conventionNumber, inSpan, takenOr, firstOpen, found, sameMonth, unlessLeft, modified, byConvention, adjusted}
 use Rattle.calendar.specs.Laws.Search.{found-first}
 use Rattle.outcomes.specs.Laws.Span.{span-is}
@@ -53,7 +54,7 @@ module _ {c : Type 0} where
     -- ---- where there may be a search
     module _ (s : c) where
       open-fine : (back : Bool) (left day : ℕ) → Fine c (Close left day) (firstOpen mask closed back left day)
-      unfolding firstOpen takenOr
+      unfolding any.firstOpen takenOr
       open-fine back zero day = refuses CLOSED (by-search s refl)
       open-fine back (suc left) day = by (isOpen mask closed day) (open-fine back left (step back day 1))
         where
@@ -62,11 +63,11 @@ module _ {c : Type 0} where
           by false u = weaker u (λ r i. record { low = omega (arith, i .low, next-close back day .low, next-close back day .high); high = omega (arith, i .high, next-close back day .low, next-close back day .high) })
 
       found-fine : (back : Bool) (day : ℕ) → Wide day → Fine c (Close 31 day) (found mask closed back day)
-      unfolding found
+      unfolding any.found
       found-fine back day w = steps _ (open-fine back 31 day) (λ r i. within-fine r (omega (arith, w .low, i .low)) (omega (arith, w .high, i .high)) i)
 
       modified-fine : (back : Bool) (day : ℕ) → Wide day → Fine c (Close 31 day) (modified mask closed back day)
-      unfolding modified unlessLeft
+      unfolding any.modified unlessLeft
       modified-fine back day w = steps _ (found-fine back day w) (λ new i. by (sameMonth day new) new i)
         where
           by : (b : Bool) (new : ℕ) → Close 31 day new → Fine c (Close 31 day) (unlessLeft b day new (found mask closed (not back)))
@@ -75,7 +76,7 @@ module _ {c : Type 0} where
 
     -- ---- by convention
     by-fine : (convention : Convention) (day : ℕ) → Asks c convention → Wide day → Fine c (Close 31 day) (byConvention mask closed convention day)
-    unfolding byConvention conventionNumber
+    unfolding any.byConvention conventionNumber
     by-fine Unadjusted day a w = gives day (record { low = omega arith; high = omega arith })
     by-fine Following day a w = found-fine (a (adjusts Following (omega arith))) false day w
     by-fine ModifiedFollowing day a w = modified-fine (a (adjusts ModifiedFollowing (omega arith))) false day w
@@ -83,20 +84,20 @@ module _ {c : Type 0} where
     by-fine ModifiedPreceding day a w = modified-fine (a (adjusts ModifiedPreceding (omega arith))) true day w
 
     pub adjusted-fine : (convention : Convention) (day : ℕ) → Asks c convention → Wide day → Fine c (Close 31 day) (adjusted mask closed convention day)
-    unfolding adjusted
+    unfolding any.adjusted
     adjusted-fine convention day a w = tested (inSpan day) (wide-span day w) (by-fine convention day a w)
 
 -- ---- a search goes 30 days on at most
 module _ (mask : ℕ) (closed : List ℕ) (day r : ℕ) where
   found-near : (back : Bool) → found mask closed back day ≡ given r → r ≤ day + 30
-  unfolding found
+  unfolding any.found
   found-near back h =
       let s = then-stepped (firstOpen mask closed back 31 day) withinSpan r h in
-      let f = found-first mask closed back 31 day (s .value) (s .from) in
+      let f = found-first (isOpen mask closed) back 31 day (s .value) (s .from) in
       omega (arith, span-is (s .value) r (s .to) .2, f .few, step-le (s .value) back day (f .steps) (f .there))
 
   modified-near : (back : Bool) → modified mask closed back day ≡ given r → r ≤ day + 30
-  unfolding modified unlessLeft
+  unfolding any.modified unlessLeft
   modified-near back h = let s = then-stepped (found mask closed back day) _ r h in by (s .value) (sameMonth day (s .value)) (s .from) (s .to)
     where
       by : (new : ℕ) (b : Bool) → found mask closed back day ≡ given new → unlessLeft b day new (found mask closed (not back)) ≡ given r → r ≤ day + 30
@@ -104,7 +105,7 @@ module _ (mask : ℕ) (closed : List ℕ) (day r : ℕ) where
       by new false f e = found-near (not back) e
 
   by-near : (convention : Convention) → byConvention mask closed convention day ≡ given r → r ≤ day + 30
-  unfolding byConvention
+  unfolding any.byConvention
   by-near Unadjusted h = let e = one-given (given day) day r refl h in omega arith
   by-near Following h = found-near false h
   by-near ModifiedFollowing h = modified-near false h
@@ -112,5 +113,5 @@ module _ (mask : ℕ) (closed : List ℕ) (day r : ℕ) where
   by-near ModifiedPreceding h = modified-near true h
 
   pub adjusted-near : (convention : Convention) → adjusted mask closed convention day ≡ given r → r ≤ day + 30
-  unfolding adjusted
+  unfolding any.adjusted
   adjusted-near convention h = by-near convention (need-given BOOK (inSpan day) _ r h .1)

@@ -15,7 +15,8 @@ use Rattle.date.specs.Date.{monthIndex, step, shiftDays, shiftMonths, shifted}
 use Rattle.date.specs.Laws.Round.{fields-valid}
 use Rattle.calendar.specs.declared.Convention.{Convention}
 use Rattle.calendar.specs.declared.Convention.the-variants.{Following, Preceding}
-use Rattle.calendar.specs.Adjust.{inSpan, lastOpen, towards, openSteps, endAsked, landed, addMonths, addWeeks, byUnit, advanced}
+use Rattle.calendar.specs.AnyCalendar as any
+use Rattle.calendar.specs.Adjust.{inSpan, towards, openSteps, endAsked, landed, addWeeks, byUnit, advanced}
 use Rattle.calendar.specs.Calendar.{longest, tenorOk}
 use Rattle.outcomes.specs.Late.{Fine, Any, gives, steps, weaker, tested}
 use Rattle.outcomes.specs.Laws.Searched.{Wide, Asks, wide-span, within-fine, adjusted-fine}
@@ -23,7 +24,7 @@ use Rattle.outcomes.specs.Laws.Days.{month-fine, last-as, At, at-wide, a
 
 module _ {c : Type 0} (mask : ℕ) (closed : List ℕ) where
   open-fine : c → (size m day : ℕ) → At m day → m + 32 * size ≤ 36000 → Fine c Any (openSteps mask closed false size day)
-  unfolding openSteps towards step
+  unfolding any.openSteps towards step
   open-fine s zero m day a h = gives day tt
   open-fine s (suc size) m day a h =
       let b : At (m + 1) (day + 1) = record { low = omega (arith, a .low); high = omega (arith, a .high) } in
@@ -31,19 +32,19 @@ module _ {c : Type 0} (mask : ℕ) (closed : List ℕ) where
 
   module _ (convention : Convention) (asks : Asks c convention) (monthend : Bool) (ends : monthend ≡ true → c) (day : ℕ) (m : Mid day) where
     weeks-fine : (size : ℕ) → size ≤ 520 → Fine c Any (addWeeks mask closed false size convention day)
-    unfolding addWeeks shifted shiftDays step
+    unfolding any.addWeeks shifted shiftDays step
     weeks-fine size h =
         let a = mid-at day m in
         steps _ (within-fine {P = Wide} (day + 7 * size) (omega (arith, a .low)) (omega (arith, a .high)) (record { low = omega (arith, a .low); high = omega (arith, a .high) })) (λ r w. weaker (adjusted-fine mask closed convention r asks w) (λ x i. tt))
 
     -- the date is at month end only where end of month is on
     asked-fine : (b : Bool) → (b ≡ true → c) → Fine c (λ (end : Bool). end ≡ true → c) (endAsked mask closed b day)
-    unfolding endAsked
+    unfolding any.endAsked
     asked-fine true h = weaker (end-fine 0 day (omega arith) (mid-at day m) mask closed (h refl)) (λ end i e. h refl)
     asked-fine false h = gives false h
 
     landed-fine : (b : Bool) → (b ≡ true → c) → (r : ℕ) → Between 21602 28797 r → Fine c Any (landed mask closed convention r b)
-    unfolding landed lastOpen
+    unfolding any.landed any.lastOpen
     landed-fine true h r w =
         rw (last-as r)
         (steps _ (month-fine (monthIndex r) 31 (omega arith) (omega (arith, w .from)) (omega (arith, w .to))) (λ x i.
@@ -60,12 +61,12 @@ module _ {c : Type 0} (mask : ℕ) (closed : List ℕ) where
     on-fine u = steps _ u (λ r w. steps _ (asked-fine monthend ends) (λ end e. landed-fine end e r w))
 
     unit-fine : (u : TimeUnit) (n : ℕ) → (u ≡ Days → c) → tenorOk n u ≡ true → Fine c Any (byUnit mask closed false n u convention monthend day)
-    unfolding byUnit tenorOk longest addMonths shifted
+    unfolding any.byUnit tenorOk longest any.addMonths shifted
     unit-fine Days n s t = open-fine (s refl) n 0 day (mid-at day m) (omega (arith, leb-true n 366 t))
     unit-fine Weeks n s t = weeks-fine n (leb-true n 520 t)
     unit-fine Months n s t = on-fine (months-fine n (leb-true n 1200 t))
     unit-fine Years n s t = on-fine (months-fine (12 * n) (omega (arith, leb-true n 100 t)))
 
     pub advanced-fine : (u : TimeUnit) (n : ℕ) → (u ≡ Days → c) → tenorOk n u ≡ true → Fine c Any (advanced mask closed false n u convention monthend day)
-    unfolding advanced
+    unfolding any.advanced
     advanced-fine u n s t = tested (inSpan day) (wide-span day (at-wide 0 day (omega arith) (mid-at day m))) (unit-fine u n s t)

@@ -8,7 +8,8 @@ use borrow.Author.Tests.{lt-ltb, le-ltb, le-leb, eq-eqb, ne-eqb}
 use Rattle.refusal.specs.Answer.{given, need, then}
 use Rattle.date.specs.Date.{SPAN-FIRST, SPAN-LAST}
 use Rattle.calendar.specs.declared.Convention.the-variants.{Unadjusted}
-use Rattle.calendar.specs.Adjust.{inSpan, byConvention, adjusted}
+use Rattle.calendar.specs.AnyCalendar as any
+use Rattle.calendar.specs.Adjust.{inSpan, adjusted}
 use Rattle.steps.specs.declared.Pace.{Pace}
 use Rattle.steps.specs.declared.Seed.{Seed}
 use Rattle.steps.specs.Candidates.{past, keep, candidate, isPast, unlessSame, unlessPast, turnOf}
@@ -17,7 +18,7 @@ use Rattle.outcomes.specs.Laws.Span.{InSpan}
 
 module _ (mask : ℕ) (closed : List ℕ) where
   pub stays : (day : ℕ) → InSpan day → adjusted mask closed Unadjusted day ≡ given day
-  unfolding adjusted inSpan byConvention need
+  unfolding any.adjusted inSpan any.byConvention need
   stays day s = rw (le-leb SPAN-FIRST day (s .low), le-leb day SPAN-LAST (s .high))
 
   module _ (pace : Pace) (seed : Seed) (exit front k day : ℕ) (c : candidate true pace seed k ≡ given day) where

@@ -302,5 +302,5 @@ pub kept-steps : (q : Request) (closed : List ℕ) (room : ℕ) → stepsOf q cl
 kept-steps q closed room = by (settles q) refl
   where
     by : (b : Bool) → settles q ≡ b → stepsOf q closed room ≡ keptSteps q closed room
-    by true e = settled-steps q closed e (adjust-again (q .mask) closed (q .convention)) room
+    by true e = settled-steps q closed e (adjust-again _ (q .convention)) room
     by false e = unsettled-steps q closed e room

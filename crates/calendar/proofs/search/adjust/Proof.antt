@@ -1,7 +1,7 @@
 -- `calendar::search::adjust` meets its contract.
 -- Assumes nothing.
 use mathlib.Core.Path.{sym, _∙_}
-use Rattle.calendar.specs.Adjust.{adjusted, byConvention}
+use Rattle.calendar.specs.AnyCalendar.{adjusted, byConvention}
 use Rattle.calendar.specs.Laws.Search.{span-need}
 use Rattle.calendar.specs.Laws.Stays.{open-stays}
 use borrow.Author.Needs.{needs}
@@ -24,7 +24,7 @@ within-requires-2 : tie.Need-within-requires-2
 within-requires-2 c κs = search needs
 
 returns : tie.Need-returns
-returns c = λ ok. c .within2 .ensures ∙ sym (open-stays _ _ _ (sym (c .before .before .is-open-at .ensures ok) ∙ c .before .if1 .taken) _)
+returns c = λ ok. c .within2 .ensures ∙ sym (open-stays _ _ (sym (c .before .before .is-open-at .ensures ok) ∙ c .before .if1 .taken) _)
 
 search-from-requires : tie.Need-search-from-requires
 search-from-requires c κs = search needs

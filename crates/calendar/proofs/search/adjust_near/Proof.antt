@@ -1,7 +1,7 @@
 -- `calendar::search::adjust_near` meets its contract.
 -- Assumes nothing.
 use mathlib.Core.Path.{sym, _∙_}
-use Rattle.calendar.specs.Adjust.{adjusted, byConvention}
+use Rattle.calendar.specs.AnyCalendar.{adjusted, byConvention}
 use Rattle.calendar.specs.Laws.Search.{span-need}
 use Rattle.calendar.specs.Laws.Stays.{open-stays}
 use borrow.Author.Needs.{needs}
@@ -34,7 +34,7 @@ returns c = λ ok m.
     let o = c .before .before in
     let w = c .with-near2 .ensures in
     record {
-      says = w .0 ∙ c .before .within2 .ensures ∙ sym (open-stays _ _ _ (sym (o .before .is-open-at .ensures ok) ∙ o .if1 .taken) _);
+      says = w .0 ∙ c .before .within2 .ensures ∙ sym (open-stays _ _ (sym (o .before .is-open-at .ensures ok) ∙ o .if1 .taken) _);
       known = w .1 m;
     }
 

@@ -9,7 +9,7 @@ use Rattle.opening.proofs.second.tenor_on.Statement.{statement}
 use Rattle.opening.proofs.second.tenor_on.Tie as tie
 use Rattle.opening.proofs.second.tenor_on.Reads as reads
 use Rattle.opening.proofs.second.tenor_on.Lts as lts
-use Rattle.calendar.proofs.search.advance.Reads as advance-reads
+use Rattle.calendar.proofs.advances.advance.Reads as advance-reads
 use Rattle.period.proofs.sign.size.Reads as size-reads
 
 size-requires : tie.Need-size-requires

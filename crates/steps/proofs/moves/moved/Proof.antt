@@ -9,7 +9,7 @@ use Rattle.steps.proofs.moves.moved.Tie as tie
 use Rattle.steps.proofs.moves.moved.Reads as reads
 use Rattle.steps.proofs.moves.moved.Lts as lts
 use Rattle.calendar.proofs.search.adjust.Reads as adjust-reads
-use Rattle.calendar.proofs.search.last_open.Reads as last-open-reads
+use Rattle.calendar.proofs.month_ends.last_open.Reads as last-open-reads
 use Rattle.date.proofs.span.last_of_month.Reads as last-of-month-reads
 use Rattle.steps.proofs.moves.third_wednesday.Reads as third-wednesday-reads
 

@@ -7,7 +7,7 @@ use Rattle.steps.proofs.seeds.seed_at_end.Statement.{statement}
 use Rattle.steps.proofs.seeds.seed_at_end.Tie as tie
 use Rattle.steps.proofs.seeds.seed_at_end.Reads as reads
 use Rattle.steps.proofs.seeds.seed_at_end.Lts as lts
-use Rattle.calendar.proofs.search.at_month_end.Reads as at-month-end-reads
+use Rattle.calendar.proofs.month_ends.at_month_end.Reads as at-month-end-reads
 
 returns : tie.Need-returns
 unfolding decided

@@ -1,0 +1,82 @@
+-- `calendar::advances::advance` meets its contract.
+-- Assumes nothing.
+use Rattle.date.specs.Date.{dated}
+use Rattle.calendar.specs.AnyCalendar.{byUnit, advanced}
+use Rattle.calendar.specs.Laws.Guards.{barred, cleared}
+use borrow.Author.Needs.{needs}
+use Rattle.calendar.proofs.advances.advance.Statement.{statement}
+use Rattle.calendar.proofs.advances.advance.Tie as tie
+
+in-span-requires : tie.Need-in-span-requires
+in-span-requires c κs = search needs
+
+returns : tie.Need-returns
+unfolding dated advanced
+returns c = λ ok. barred _ _ _ _ (c .before .in-span .ensures) (c .if1 .taken)
+
+enum-told : tie.Need-enum-told
+enum-told c = search needs
+
+step-open-requires : tie.Need-step-open-requires
+step-open-requires c κs = search needs
+
+enum-told-2 : tie.Need-enum-told-2
+enum-told-2 c = search needs
+
+add-weeks-requires : tie.Need-add-weeks-requires
+add-weeks-requires c κs = search needs
+
+enum-told-3 : tie.Need-enum-told-3
+enum-told-3 c = search needs
+
+add-months-requires : tie.Need-add-months-requires
+add-months-requires c κs = search needs
+
+enum-told-4 : tie.Need-enum-told-4
+enum-told-4 c = search needs
+
+add-months-requires-2 : tie.Need-add-months-requires-2
+add-months-requires-2 c κs = search needs
+
+returns-2 : tie.Need-returns-2
+unfolding advanced byUnit
+returns-2 c =
+    λ ok. rw (c .before .enum-told .given .1)
+    (cleared _ _ _ _ _ (c .before .before .before .before .in-span .ensures) (c .before .before .before .if1 .left) (c .step-open .ensures ok))
+
+returns-3 : tie.Need-returns-3
+unfolding advanced byUnit
+returns-3 c =
+    λ ok. rw (c .before .enum-told2 .given .1)
+    (cleared _ _ _ _ _ (c .before .before .before .before .in-span .ensures) (c .before .before .before .if1 .left) (c .add-weeks .ensures ok))
+
+returns-4 : tie.Need-returns-4
+unfolding advanced byUnit
+returns-4 c =
+    λ ok. rw (c .before .enum-told3 .given .1)
+    (cleared _ _ _ _ _ (c .before .before .before .before .in-span .ensures) (c .before .before .before .if1 .left) (c .add-months .ensures ok))
+
+returns-5 : tie.Need-returns-5
+unfolding advanced byUnit
+returns-5 c =
+    λ ok. rw (c .before .enum-told4 .given .1)
+    (cleared _ _ _ _ _ (c .before .before .before .before .in-span .ensures) (c .before .before .before .if1 .left) (c .add-months2 .ensures ok))
+
+pub advance-spec : {M : Type 1} → statement M
+advance-spec =
+    tie.close
+    (tie.spec
+    in-span-requires
+    returns
+    enum-told
+    step-open-requires
+    enum-told-2
+    add-weeks-requires
+    enum-told-3
+    add-months-requires
+    enum-told-4
+    add-months-requires-2
+    returns-2
+    returns-3
+    returns-4
+    returns-5)

@@ -1,0 +1,67 @@
+-- `calendar::scan::preceding_from` meets its contract.
+-- Assumes nothing.
+use Rattle.date.specs.Date.{dated}
+use Rattle.calendar.specs.AnyCalendar.{adjusted, byConvention}
+use Rattle.calendar.specs.Laws.Conventions.{span-from, span-to, look-day, look-refused}
+use Rattle.calendar.specs.Laws.Guards.{barred}
+use native.Mathlib.Omega.{arith}
+use borrow.Author.Needs.{needs}
+use Rattle.calendar.proofs.scan.preceding_from.Statement.{statement}
+use Rattle.calendar.proofs.scan.preceding_from.Tie as tie
+
+in-span-requires : tie.Need-in-span-requires
+in-span-requires c κs = search needs
+
+returns : tie.Need-returns
+unfolding dated adjusted
+returns c = λ ok. barred _ _ _ _ (c .before .in-span .ensures) (c .if1 .taken)
+
+behind-requires : tie.Need-behind-requires
+behind-requires c κs = (
+  span-from _ _ (c .before .in-span .ensures) (c .if1 .left),
+  span-to _ _ (c .before .in-span .ensures) (c .if1 .left),
+  omega arith,
+  c .before .before .before .pre,
+)
+
+enum-known-first : tie.Need-enum-known-first
+enum-known-first c = search needs
+
+cast-within : tie.Need-cast-within
+cast-within c = search needs
+
+within-requires : tie.Need-within-requires
+within-requires c κs = search needs
+
+enum-known-first-2 : tie.Need-enum-known-first-2
+enum-known-first-2 c = search needs
+
+returns-2 : tie.Need-returns-2
+unfolding adjusted byConvention
+returns-2 c =
+    let first = c .before .before .before .before .before .behind in
+    let span = c .before .before .before .before .before .before .before .in-span in
+    let in-it = c .before .before .before .before .before .before .if1 in
+    λ ok. look-day _ _ _ (first .result) (c .before .before .before .first .given .0 .0) _ _ (span .ensures) (in-it .left) (first .ensures ok) (cc) (c .within .ensures)
+
+returns-3 : tie.Need-returns-3
+unfolding dated adjusted byConvention
+returns-3 c =
+    let first = c .before .before .before .behind in
+    let span = c .before .before .before .before .before .in-span in
+    let in-it = c .before .before .before .before .if1 in
+    λ ok. look-refused _ _ _ (first .result) (c .before .first2 .given .0 .0) _ (span .ensures) (in-it .left) (first .ensures ok) cc
+
+pub preceding-from-spec : {M : Type 1} → statement M
+preceding-from-spec =
+    tie.close
+    (tie.spec
+    in-span-requires
+    returns
+    behind-requires
+    enum-known-first
+    cast-within
+    within-requires
+    enum-known-first-2
+    returns-2
+    returns-3)
