@@ -186,6 +186,22 @@ int64_t heronspan_index_add(uint32_t day, uint8_t mask, const uint32_t *closed, 
 int64_t heronspan_index_remove(uint32_t day, uint8_t mask, const uint32_t *closed, size_t closed_len, uint32_t *index,
                                size_t index_len);
 
+/* ---- a desk's closed dates over the house's: for each year the desk's if it has any there, otherwise the house's. Each list by itself keeps
+   the rule of closed dates. */
+
+/* 0 where the run of a year is answered: both lists keep their rule (else 3), and the year lies from 1800 to 2399 (else 2). */
+int64_t heronspan_desk_check(const uint32_t *desk, size_t desk_len, const uint32_t *house, size_t house_len, uint32_t year);
+
+/* How many entries the run of a year has, 0 where neither list has one. The list that it stands in, 0 for none, 1 for the desk's, 2 for the
+   house's, is written to the first place of `place`, and where the run starts in it to the second; fewer than two places are 14, before all
+   else, and a refusal leaves them as they were. */
+int64_t heronspan_desk_run(const uint32_t *desk, size_t desk_len, const uint32_t *house, size_t house_len, uint32_t year, uint32_t *place,
+                           size_t place_len);
+
+/* The day adjusted by a convention, each day that is tried open or closed by the run of its own year. */
+int64_t heronspan_desk_adjust(uint32_t day, uint8_t convention, uint8_t mask, const uint32_t *desk, size_t desk_len, const uint32_t *house,
+                              size_t house_len);
+
 /* ---- IMM dates and codes. `main` is 1 for the main cycle (March, June, September, December), 0 for every month. A code is a
  * letter and a digit; where one is answered, it is letter * 256 + digit, both bytes. */
 

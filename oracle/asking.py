@@ -462,6 +462,29 @@ class Questions:
         places = 3 if r.random() < .9 else r.randrange(6)
         return " ".join(map(str, ["yearreport", places, len(dates), *dates]))
 
+    def two_lists(self, days):
+        """A mask, and a desk's and a house's list, where they can touch the days."""
+        mask, *desk = self.calendar(days).split()
+        house = self.calendar([*days, *(day + self.r.choice((-365, 365)) for day in days)]).split()[1:]
+        return mask, " ".join(desk), " ".join(house)
+
+    def deskrun(self):
+        """A year, mostly one that a list has dates in, and the two lists."""
+        r = self.r
+        day = self.day()
+        mask, desk, house = self.two_lists([day])
+        year = r.choice((0, 1799, 1800, 2399, 2400, 4294967295)) if r.random() < .03 else date.fromordinal(day).year + r.choice((0, 0, 0, 0, 1, -1))
+        return f"deskrun {year} {desk} {house}"
+
+    def deskadjust(self):
+        """A day, often near the end of a year, and the two lists."""
+        r = self.r
+        day = self.any_day()
+        if r.random() < .6 and FIRST <= day <= LAST:
+            day = in_book(number(date.fromordinal(day).year, 12, 31) + r.randrange(-33, 34))
+        mask, desk, house = self.two_lists([day])
+        return f"deskadjust {day} {r.randrange(5)} {mask} {desk} {house}"
+
     def bytes(self):
         """A build as request bytes, often with something wrong in them."""
         r = self.r
@@ -531,7 +554,8 @@ class Questions:
 SMALL = ("next20 prev20 adjust monthend ismonthend advance immdate immcode code date nextdate nextdatecode nextcode "
          "nextcodecode dateadvance nth nextweekday dmonthend make fields difference compare times").split()
 YEARS = ["yearfraction", "yearparts", "yearreport"]
-MORE = ["open", "check", "lent", "coming", "bytes", "strange", *YEARS]
+DESK = ["deskrun", "deskadjust"]
+MORE = ["open", "check", "lent", "coming", *DESK, "bytes", "strange", *YEARS]
 # Asked only by name, since the law counts every day from 1800 on.
 INDEX = ["ixmake", "ixcount", "ixnth", "ixadd", "ixremove"]
 KINDS = ["build", "trace", *SMALL]

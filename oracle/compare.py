@@ -39,7 +39,8 @@ TODAY = 739252  # 2025-01-01, which smallest inputs are drawn to
 
 # Positions of dates among a question's words.
 DATES = {"build": (1, 2, 9, 10), "trace": (1, 2, 9, 10), "coming": (1, 2, 3), "date": (2,), "nextdatecode": (3,), "nextcodecode": (3,),
-         "difference": (1, 2), "compare": (1, 2), "nth": (), "make": (), "times": (), "immcode": (), "check": (), "ixcount": (1, 2), "ixmake": ()}
+         "difference": (1, 2), "compare": (1, 2), "nth": (), "make": (), "times": (), "immcode": (), "check": (), "ixcount": (1, 2), "ixmake": (),
+         "deskrun": ()}
 # Where the calendar starts.
 CALENDAR = {"build": 11, "trace": 11, "coming": 12, "lent": 14, "check": 1, "open": 2, "adjust": 3, "monthend": 2, "ismonthend": 2, "advance": 6,
             "ixmake": 2, "ixcount": 4, "ixnth": 4, "ixadd": 3, "ixremove": 3}
@@ -68,7 +69,7 @@ def of_rust(line):
         return not reference.answer(line).startswith("refused")
     if words[0] == "ixcount":
         return not reference.answer(line).startswith("refused")
-    ours_alone = ("lent", "bytes", "check", "ixmake", "ixnth", "ixadd", "ixremove", *asking.YEARS)
+    ours_alone = ("lent", "bytes", "check", "ixmake", "ixnth", "ixadd", "ixremove", *asking.DESK, *asking.YEARS)
     return words[0] not in ours_alone and not reference.outside(words)
 
 

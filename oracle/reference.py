@@ -166,6 +166,30 @@ class Calendar:
         return self.adjust(moved, convention)
 
 
+class DeskCalendar(Calendar):
+    """For each year the desk's closed dates if it has any there, otherwise the house's."""
+
+    def __init__(self, mask, desk, house):
+        super().__init__(mask, ())
+        self.lists = desk, house
+
+    def check(self):
+        for closed in self.lists:
+            Calendar(self.mask, closed).check()
+
+    def run(self, year):
+        """The list, 1 for the desk's and 2 for the house's, and the places of the year's entries in it."""
+        for which, closed in enumerate(self.lists, 1):
+            places = [at for at, day in enumerate(closed) if civil(day).year == year]
+            if places:
+                return which, places
+        return 0, []
+
+    def open(self, day):
+        which, places = self.run(civil(day).year)
+        return not self.mask >> (day - 1) % 7 & 1 and day not in [self.lists[which - 1][at] for at in places]
+
+
 NULL = Calendar(0, ())
 
 
@@ -458,7 +482,7 @@ UNIT = 0
 BUILD = ((3, UNIT), (5, 10), (6, 5), (7, 5), (8, 2))
 BYTES = {"build": BUILD, "trace": BUILD, "lent": tuple((at + 3, size) for at, size in BUILD),
          "coming": tuple((at + 1, size) for at, size in BUILD),
-         "adjust": ((2, 5),), "advance": ((2, UNIT), (4, 5), (5, 2)), "next20": ((2, 10),), "prev20": ((2, 10),),
+         "adjust": ((2, 5),), "deskadjust": ((2, 5),), "advance": ((2, UNIT), (4, 5), (5, 2)), "next20": ((2, 10),), "prev20": ((2, 10),),
          "dateadvance": ((2, UNIT),), "times": ((1, UNIT),), "yearparts": ((2, 3),), "yearfraction": ((1, 3),),
          **{kind: ((2, 2),) for kind in "immdate immcode nextdate nextdatecode nextcode nextcodecode".split()}}
 RECORD = 6
@@ -491,11 +515,13 @@ class Words:
         word = self.word()
         return b"" if word == "-" else bytes.fromhex(word)
 
-    def calendar(self):
-        mask, count = self.number(), self.number()
-        closed = tuple(map(int, self.words[self.at:self.at + count]))
+    def dates(self):
+        count = self.number()
         self.at += count
-        return Calendar(mask, closed)
+        return tuple(map(int, self.words[self.at - count:self.at]))
+
+    def calendar(self):
+        return Calendar(self.number(), self.dates())
 
 
 def read_build(w, previous=previous_twentieth):
@@ -604,6 +630,20 @@ def ask_open(w):
 
 def ask_adjust(w):
     day, convention, calendar = w.book(), w.number(), w.calendar()
+    calendar.check()
+    return calendar.adjust(day, convention)
+
+
+def ask_deskrun(w):
+    year, calendar = w.number(), DeskCalendar(0, w.dates(), w.dates())
+    calendar.check()
+    need(1800 <= year <= 2399, BOOK)
+    which, places = calendar.run(year)
+    return f"{len(places)} {which} {places[0] if places else 0}"
+
+
+def ask_deskadjust(w):
+    day, convention, calendar = w.book(), w.number(), DeskCalendar(w.number(), w.dates(), w.dates())
     calendar.check()
     return calendar.adjust(day, convention)
 
@@ -758,6 +798,8 @@ ASK = {
     "check": ask_check,
     "open": ask_open,
     "adjust": ask_adjust,
+    "deskrun": ask_deskrun,
+    "deskadjust": ask_deskadjust,
     "monthend": ask_monthend,
     "ismonthend": ask_ismonthend,
     "advance": ask_advance,

@@ -343,6 +343,22 @@ static int ask_date(const char *kind)
     return 1;
 }
 
+/* The list that a run stands in and where it starts; nothing may be written beyond, and nothing on a refusal. */
+static void say_run(uint32_t year, struct dates desk, struct dates house)
+{
+    uint32_t place[3] = {77, 78, 79};
+    int64_t n = heronspan_desk_run(desk.at, desk.count, house.at, house.count, year, place, 2);
+    int64_t asked = heronspan_desk_check(desk.at, desk.count, house.at, house.count, year);
+    if (place[2] != 79 || (n < 0 && (place[0] != 77 || place[1] != 78)) || (n < 0 ? n : 0) != asked)
+        say("wrote elsewhere, or asked %lld", (long long)asked);
+    else if (n < 0)
+        say_number(n);
+    else
+        say("%lld %u %u", (long long)n, place[0], place[1]);
+    if (heronspan_desk_run(desk.at, desk.count, house.at, house.count, year, place, 1) != ROOM)
+        say(" no room was not refused");
+}
+
 static int ask_calendar(const char *kind)
 {
     if (is(kind, "check")) {
@@ -357,6 +373,15 @@ static int ask_calendar(const char *kind)
         uint8_t convention = byte();
         struct calendar c = calendar();
         say_number(heronspan_adjust(d, convention, c.mask, c.closed, c.count));
+    } else if (is(kind, "deskrun")) {
+        uint32_t year = (uint32_t)number();
+        struct dates desk = dates_in(0), house = dates_in(1);
+        say_run(year, desk, house);
+    } else if (is(kind, "deskadjust")) {
+        uint32_t d = day();
+        uint8_t convention = byte(), mask = byte();
+        struct dates desk = dates_in(0), house = dates_in(1);
+        say_number(heronspan_desk_adjust(d, convention, mask, desk.at, desk.count, house.at, house.count));
     } else if (is(kind, "monthend")) {
         uint32_t d = day();
         struct calendar c = calendar();

@@ -114,6 +114,30 @@ static void read_code(void)
     }
 }
 
+struct dates {
+    uint32_t *at;
+    size_t count;
+};
+
+/* A count and as many days; two such lists can stand beside each other. */
+static struct dates dates_in(int which)
+{
+    static uint32_t *places[2];
+    static size_t room[2];
+    struct dates d;
+    d.count = (size_t)number();
+    if (d.count > room[which]) {
+        room[which] = d.count;
+        places[which] = (uint32_t *)realloc(places[which], d.count * sizeof **places);
+        if (!places[which])
+            stop("no memory");
+    }
+    for (size_t i = 0; i < d.count; i++)
+        places[which][i] = day();
+    d.at = d.count ? places[which] : NULL;
+    return d;
+}
+
 struct calendar {
     uint8_t mask;
     uint32_t *closed;
@@ -122,20 +146,11 @@ struct calendar {
 
 static struct calendar calendar(void)
 {
-    static uint32_t *places;
-    static size_t room;
     struct calendar c;
     c.mask = byte();
-    c.count = (size_t)number();
-    if (c.count > room) {
-        room = c.count;
-        places = (uint32_t *)realloc(places, room * sizeof *places);
-        if (!places)
-            stop("no memory");
-    }
-    for (size_t i = 0; i < c.count; i++)
-        places[i] = day();
-    c.closed = c.count ? places : NULL;
+    struct dates closed = dates_in(0);
+    c.closed = closed.at;
+    c.count = closed.count;
     return c;
 }
 

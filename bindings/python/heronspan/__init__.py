@@ -140,6 +140,9 @@ _PARAMETERS = {
     "index_nth": [_u32, _u32, _u8, *_days, *_days],
     "index_add": [_u32, _u8, *_days, *_days],
     "index_remove": [_u32, _u8, *_days, *_days],
+    "desk_check": [*_days, *_days, _u32],
+    "desk_run": [*_days, *_days, _u32, *_days],
+    "desk_adjust": [_u32, _u8, _u8, *_days, *_days],
     "is_imm_date": [_u32, _u8],
     "is_imm_code": [*_bytes, _u8],
     "imm_code": [_u32],
@@ -358,6 +361,50 @@ class Index:
         """One closed date less: the index and its calendar are then those without the date."""
         _ask("index_remove", _number(day), *self.calendar._lent, self._counts, Index.PLACES)
         self.calendar = Calendar(self.calendar.mask, [closed for closed in self.calendar.closed if closed != day])
+
+
+# ---- a desk's closed dates over the house's
+
+
+class Run(Sequence[date]):
+    """The entries of a year: a part of the list that has them, and no copy. `name` says which list it is, if any."""
+
+    def __init__(self, name: Optional[str], dates: tuple[date, ...], start: int, count: int) -> None:
+        self.name, self.start = name, start
+        self._dates, self._count = dates, count
+
+    def __len__(self) -> int:
+        return self._count
+
+    def __getitem__(self, at):  # type: ignore[no-untyped-def]
+        places = range(self.start, self.start + self._count)[at]
+        return self._dates[places] if isinstance(places, int) else [self._dates[place] for place in places]
+
+
+class DeskCalendar:
+    """Weekly closed days, and for each year the desk's closed dates if it has any there, otherwise the house's."""
+
+    def __init__(self, mask: int = 0, desk: Iterable[date] = (), house: Iterable[date] = ()) -> None:
+        self.mask = _in(mask, 0, 127, Refusal.REQUEST)
+        self.desk, self.house = tuple(desk), tuple(house)
+        self._lists = tuple(part for dates in (self.desk, self.house) for part in _list([day.toordinal() for day in dates]))
+        _ask("calendar_check", self.mask, *self._lists[:2])
+        _ask("calendar_check", self.mask, *self._lists[2:])
+
+    def check(self, year: int) -> None:
+        """Refuses a year whose run is not answered."""
+        _ask("desk_check", *self._lists, _unsigned(year))
+
+    def run(self, year: int) -> Run:
+        """The run of a year, empty where neither list has a date there."""
+        place = (_u32 * 2)()
+        count = _ask("desk_run", *self._lists, _unsigned(year), place, 2)
+        name, dates = ((None, ()), ("desk", self.desk), ("house", self.house))[place[0]]
+        return Run(name, dates, place[1], count)
+
+    def adjust(self, day: Optional[date], convention: Convention) -> date:
+        """The date adjusted, each day that is tried open or closed by the run of its own year."""
+        return _date(_ask("desk_adjust", _number(day), _byte(convention), self.mask, *self._lists))
 
 
 # ---- IMM dates and codes

@@ -110,6 +110,21 @@ class Calendars(Refusals):
         self.assertEqual(calendar.advance(date(2025, 4, 17), 1, Unit.DAYS), date(2025, 4, 22))
         self.refused("TENOR", calendar.advance, date(2025, 4, 17), 367, Unit.DAYS)
 
+    def test_a_desk_over_the_house(self) -> None:
+        house = days("2025-12-25", "2025-12-26", "2026-01-01", "2026-01-02")
+        calendar = h.DeskCalendar(h.WEEKENDS, days("2025-12-25"), house)
+        self.assertEqual((calendar.run(2025).name, list(calendar.run(2025))), ("desk", list(days("2025-12-25"))))
+        self.assertEqual((calendar.run(2026).name, list(calendar.run(2026))), ("house", list(days("2026-01-01", "2026-01-02"))))
+        self.assertEqual((calendar.run(2024).name, len(calendar.run(2024))), (None, 0))
+        self.refused("BOOK", calendar.run, 1799)
+        self.refused("BOOK", calendar.check, 2400)
+        self.assertIsNone(calendar.check(1800))
+        self.assertEqual(calendar.adjust(date(2025, 12, 25), Convention.FOLLOWING), date(2025, 12, 26))
+        self.assertEqual(h.DeskCalendar(h.WEEKENDS, (), house).adjust(date(2025, 12, 25), Convention.FOLLOWING), date(2025, 12, 29))
+        at_end = h.DeskCalendar(h.WEEKENDS, days("2025-12-31"), house)
+        self.assertEqual(at_end.adjust(date(2025, 12, 31), Convention.FOLLOWING), date(2026, 1, 5))
+        self.refused("CALENDAR", h.DeskCalendar, 0, days("2025-12-25"), days("2025-12-26", "2025-12-25"))
+
     def test_a_calendar_that_breaks_its_rule_is_refused(self) -> None:
         self.refused("CALENDAR", h.Calendar, 127)
         self.refused("CALENDAR", h.Calendar, 0, days("2025-04-21", "2025-04-18"))

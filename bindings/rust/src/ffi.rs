@@ -72,6 +72,25 @@ extern "C" {
         index: *mut u32,
         index_len: usize,
     ) -> i64;
+    pub fn heronspan_desk_check(desk: *const u32, desk_len: usize, house: *const u32, house_len: usize, year: u32) -> i64;
+    pub fn heronspan_desk_run(
+        desk: *const u32,
+        desk_len: usize,
+        house: *const u32,
+        house_len: usize,
+        year: u32,
+        place: *mut u32,
+        place_len: usize,
+    ) -> i64;
+    pub fn heronspan_desk_adjust(
+        day: u32,
+        convention: u8,
+        mask: u8,
+        desk: *const u32,
+        desk_len: usize,
+        house: *const u32,
+        house_len: usize,
+    ) -> i64;
     pub fn heronspan_is_imm_date(day: u32, main: u8) -> i64;
     pub fn heronspan_is_imm_code(code: *const u8, code_len: usize, main: u8) -> i64;
     pub fn heronspan_imm_code(day: u32) -> i64;

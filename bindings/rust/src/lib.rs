@@ -194,6 +194,7 @@ pub enum Convention {
 /// A day number: 1 is 1 January of year 1. It is not ordered by itself, since [`Date::NONE`] has no place in the order:
 /// [`Date::compare`] is.
 #[derive(Clone, Copy, Debug, PartialEq, Eq, Hash)]
+#[repr(transparent)]
 pub struct Date(pub u32);
 
 impl Date {
@@ -387,6 +388,69 @@ impl Index {
         told(unsafe { ffi::heronspan_index_remove(date.0, self.calendar.mask, list, len, counts, places) })?;
         self.calendar.closed.retain(|&closed| closed != date.0);
         Ok(())
+    }
+}
+
+/// Weekly closed days, and for each year the desk's closed dates if it has any there, otherwise the house's.
+#[derive(Clone, Copy, Debug, PartialEq, Eq)]
+pub struct DeskCalendar<'a> {
+    mask: u8,
+    desk: &'a [Date],
+    house: &'a [Date],
+}
+
+impl<'a> DeskCalendar<'a> {
+    /// A calendar over two lists, where each of them keeps its rule.
+    pub fn new(mask: u8, desk: &'a [Date], house: &'a [Date]) -> Answer<DeskCalendar<'a>> {
+        for list in [desk, house] {
+            told(unsafe { ffi::heronspan_calendar_check(mask, list.as_ptr().cast(), list.len()) })?;
+        }
+        Ok(DeskCalendar { mask, desk, house })
+    }
+
+    /// Whether the run of a year is answered.
+    pub fn check(&self, year: u32) -> Answer<()> {
+        let (desk, house) = (self.desk, self.house);
+        let answer = unsafe {
+            ffi::heronspan_desk_check(desk.as_ptr().cast(), desk.len(), house.as_ptr().cast(), house.len(), year)
+        };
+        told(answer).map(|_| ())
+    }
+
+    /// The run of a year, a part of one of the two lists, empty where neither has a date there.
+    pub fn run(&self, year: u32) -> Answer<&'a [Date]> {
+        let (desk, house) = (self.desk, self.house);
+        let mut place = [0u32; 2];
+        let count = told(unsafe {
+            ffi::heronspan_desk_run(
+                desk.as_ptr().cast(),
+                desk.len(),
+                house.as_ptr().cast(),
+                house.len(),
+                year,
+                place.as_mut_ptr(),
+                place.len(),
+            )
+        })?;
+        let start = place[1] as usize;
+        let list = [&[], desk, house][place[0] as usize];
+        Ok(&list[start..start + count as usize])
+    }
+
+    /// The date adjusted, each day that is tried open or closed by the run of its own year.
+    pub fn adjust(&self, date: Date, convention: Convention) -> Answer<Date> {
+        let (desk, house) = (self.desk, self.house);
+        day(unsafe {
+            ffi::heronspan_desk_adjust(
+                date.0,
+                convention as u8,
+                self.mask,
+                desk.as_ptr().cast(),
+                desk.len(),
+                house.as_ptr().cast(),
+                house.len(),
+            )
+        })
     }
 }
 

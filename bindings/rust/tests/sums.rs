@@ -1,5 +1,5 @@
 //! Sums by hand of document 01, and what is refused.
-use heronspan::{imm, times, year_fraction, year_parts, year_report, Basis, Calendar, Coming, Convention, Date, Index, Parts, Refusal, Request, Rule, Schedule, Sums, Unit};
+use heronspan::{imm, times, year_fraction, year_parts, year_report, Basis, Calendar, Coming, Convention, Date, DeskCalendar, Index, Parts, Refusal, Request, Rule, Schedule, Sums, Unit};
 use std::cmp::Ordering;
 
 fn day(year: u32, month: u32, day: u32) -> Date {
@@ -77,6 +77,23 @@ fn open_days_by_index() {
     assert_eq!(index.remove(day(2025, 3, 1)), Ok(()));
     assert_eq!(index.counts(), before.counts());
     assert_eq!(index.remove(day(2025, 3, 1)), Err(Refusal::Same));
+}
+
+#[test]
+fn a_desk_over_the_house() {
+    let house = [day(2025, 12, 25), day(2025, 12, 26), day(2026, 1, 1), day(2026, 1, 2)];
+    let desk = [day(2025, 12, 25)];
+    let calendar = DeskCalendar::new(Calendar::WEEKENDS, &desk, &house).unwrap();
+    let own = calendar.run(2025).unwrap();
+    assert!(std::ptr::eq(own, &desk[..]));
+    assert!(std::ptr::eq(calendar.run(2026).unwrap(), &house[2..]));
+    assert_eq!(calendar.run(2024), Ok(&[][..]));
+    assert_eq!(calendar.run(1799), Err(Refusal::Book));
+    assert_eq!((calendar.check(1800), calendar.check(2400)), (Ok(()), Err(Refusal::Book)));
+    assert_eq!(calendar.adjust(day(2025, 12, 25), Convention::Following), Ok(day(2025, 12, 26)));
+    let none = DeskCalendar::new(Calendar::WEEKENDS, &[], &house).unwrap();
+    assert_eq!(none.adjust(day(2025, 12, 25), Convention::Following), Ok(day(2025, 12, 29)));
+    assert_eq!(DeskCalendar::new(0, &[], &[day(2026, 1, 2), day(2026, 1, 1)]), Err(Refusal::Calendar));
 }
 
 #[test]

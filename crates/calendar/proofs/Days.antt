@@ -28,11 +28,11 @@ pub record Scan (back : Bool) (closed : List ℕ) (day at : ℕ) : Type 0 where
   pub within : at ≤ length closed
   pub passed : closedOk closed ≡ true → Passed back closed at day
 
-pub record Days (back : Bool) (mask : ℕ) (closed : List ℕ) (start day left at weekday : ℕ) : Type 0 where
+pub record Days (back : Bool) (mask : ℕ) (closed : List ℕ) (tries start day left at weekday : ℕ) : Type 0 where
   pub least : left ≤ day
   pub most : day + left ≤ 876248
   pub scan : Scan back closed day at
-  pub same : firstOpen mask closed back left day ≡ firstOpen mask closed back 31 start
+  pub same : firstOpen mask closed back left day ≡ firstOpen mask closed back tries start
   pub on : weekday ≡ (day + 6) % 7
 
 -- ---- both directions
@@ -51,7 +51,7 @@ unfolding step Passed
 step-passed true closed at day p = record { after = λ k l h. omega (arith, p .after k l h) }
 step-passed false closed at day p = record { before = λ k l. omega (arith, p .before k l) }
 
-module _ {back : Bool} {mask : ℕ} {closed : List ℕ} {start day left at weekday : ℕ} (g : Days back mask closed start day left at weekday) where
+module _ {back : Bool} {mask : ℕ} {closed : List ℕ} {tries start day left at weekday : ℕ} (g : Days back mask closed tries start day left at weekday) where
   pub scan-of-days : Scan back closed day at
   scan-of-days = g .scan
 
@@ -63,7 +63,7 @@ module _ {back : Bool} {mask : ℕ} {closed : List ℕ} {start day left at weekd
   unfolding weeklyClosed
   weekly p = p ∙ ap (λ (k : ℕ). eqb (mask / 2 ^ k % 2) 1) (g .on)
 
-  none : left ≡ 0 → firstOpen mask closed back 31 start ≡ refused CLOSED
+  none : left ≡ 0 → firstOpen mask closed back tries start ≡ refused CLOSED
   none h = sym (g .same) ∙ ap (λ (k : ℕ). firstOpen mask closed back k day) h ∙ turn-none (isOpen mask closed) back day
 
   module _ (h : 0 < left) where
@@ -71,7 +71,7 @@ module _ {back : Bool} {mask : ℕ} {closed : List ℕ} {start day left at weekd
     one-less = ap (λ (k : ℕ). firstOpen mask closed back k day) (omega arith)
 
     -- a closed day is passed over
-    skip : {to next : ℕ} → next ≡ (step back day 1 + 6) % 7 → isOpen mask closed day ≡ false → Scan back closed (step back day 1) to → Days back mask closed start (step back day 1) (left - 1) to next
+    skip : {to next : ℕ} → next ≡ (step back day 1 + 6) % 7 → isOpen mask closed day ≡ false → Scan back closed (step back day 1) to → Days back mask closed tries start (step back day 1) (left - 1) to next
     skip n e s =
         record {
           least = step-least back day left h (g .least);
@@ -81,24 +81,24 @@ module _ {back : Bool} {mask : ℕ} {closed : List ℕ} {start day left at weekd
           on = n;
         }
 
-    skip-week : {w : Bool} {next : ℕ} → next ≡ (step back day 1 + 6) % 7 → w ≡ eqb (mask / 2 ^ weekday % 2) 1 → w ≡ true → Days back mask closed start (step back day 1) (left - 1) at next
+    skip-week : {w : Bool} {next : ℕ} → next ≡ (step back day 1 + 6) % 7 → w ≡ eqb (mask / 2 ^ weekday % 2) 1 → w ≡ true → Days back mask closed tries start (step back day 1) (left - 1) at next
     skip-week n p q =
         skip n (shut-week mask closed day (sym (weekly p) ∙ q))
         (record { within = g .scan .within; passed = λ ok. step-passed back closed at day (g .scan .passed ok) })
 
     -- an open day is the answer
-    take : {w : Bool} → w ≡ eqb (mask / 2 ^ weekday % 2) 1 → w ≡ false → member day closed ≡ false → given day ≡ firstOpen mask closed back 31 start
+    take : {w : Bool} → w ≡ eqb (mask / 2 ^ weekday % 2) 1 → w ≡ false → member day closed ≡ false → given day ≡ firstOpen mask closed back tries start
     take p q m =
         sym (sym (g .same) ∙ one-less ∙ turn-open (isOpen mask closed) back (left - 1) day (is-open mask closed day (sym (weekly p) ∙ q) m))
 
-pub days-none : {back : Bool} {mask : ℕ} {closed : List ℕ} {start day left at weekday : ℕ} → Days back mask closed start day left at weekday → left ≡ 0 → closedOk closed ≡ true → refused CLOSED ≡ firstOpen mask closed back 31 start
+pub days-none : {back : Bool} {mask : ℕ} {closed : List ℕ} {tries start day left at weekday : ℕ} → Days back mask closed tries start day left at weekday → left ≡ 0 → closedOk closed ≡ true → refused CLOSED ≡ firstOpen mask closed back tries start
 days-none g h ok = sym (none g h)
 
 -- ---- on
-module _ {mask : ℕ} {closed : List ℕ} {start at weekday : ℕ} where
-  pub ahead-start : SPAN-FIRST ≤ start → start ≤ SPAN-LAST → LowerBound closed start at → weekday ≡ (start + 6) % 7 → Days false mask closed start start 31 at weekday
+module _ {mask : ℕ} {closed : List ℕ} {tries start at weekday : ℕ} where
+  pub ahead-start : SPAN-FIRST ≤ start → start ≤ SPAN-LAST → tries ≤ 31 → LowerBound closed start at → weekday ≡ (start + 6) % 7 → Days false mask closed tries start start tries at weekday
   unfolding Passed
-  ahead-start l h b w =
+  ahead-start l h few b w =
       record {
         least = omega arith;
         most = omega arith;
@@ -107,15 +107,15 @@ module _ {mask : ℕ} {closed : List ℕ} {start at weekday : ℕ} where
         on = w;
       }
 
-module _ {mask : ℕ} {closed : List ℕ} {start day left at weekday : ℕ} (g : Days false mask closed start day left at weekday) (h : left ≡ 0 → ⊥) {w : Bool} (p : w ≡ eqb (mask / 2 ^ weekday % 2) 1) where
+module _ {mask : ℕ} {closed : List ℕ} {tries start day left at weekday : ℕ} (g : Days false mask closed tries start day left at weekday) (h : left ≡ 0 → ⊥) {w : Bool} (p : w ≡ eqb (mask / 2 ^ weekday % 2) 1) where
   weekday-on : {next : ℕ} → next ≡ (weekday + 1) % 7 → next ≡ (day + 1 + 6) % 7
   weekday-on n = omega (arith, g .on)
 
-  pub ahead-week : {next : ℕ} → next ≡ (weekday + 1) % 7 → w ≡ true → Days false mask closed start (day + 1) (left - 1) at next
+  pub ahead-week : {next : ℕ} → next ≡ (weekday + 1) % 7 → w ≡ true → Days false mask closed tries start (day + 1) (left - 1) at next
   unfolding step
   ahead-week n q = skip-week g (omega arith) (weekday-on n) p q
 
-  pub ahead-hit : {to next : ℕ} → next ≡ (weekday + 1) % 7 → Scan false closed day to → to < length closed → getD closed to 0 ≡ day → Days false mask closed start (day + 1) (left - 1) (to + 1) next
+  pub ahead-hit : {to next : ℕ} → next ≡ (weekday + 1) % 7 → Scan false closed day to → to < length closed → getD closed to 0 ≡ day → Days false mask closed tries start (day + 1) (left - 1) (to + 1) next
   unfolding step Passed
   ahead-hit {to} n s l e =
       skip g (omega arith) (weekday-on n) (shut-listed mask closed day (present closed to day l e))
@@ -124,12 +124,12 @@ module _ {mask : ℕ} {closed : List ℕ} {start day left at weekday : ℕ} (g :
         passed = λ ok. record { before = λ k q. ⊎-elim (λ (z : k ≡ to). rw z (omega arith)) (λ (z : k < to). omega (arith, s .passed ok .before k z)) (eq-or-lt-of-le (omega arith)) };
       })
 
-  pub ahead-stop : {to : ℕ} → w ≡ false → Scan false closed day to → day < getD closed to 0 → closedOk closed ≡ true → given day ≡ firstOpen mask closed false 31 start
+  pub ahead-stop : {to : ℕ} → w ≡ false → Scan false closed day to → day < getD closed to 0 → closedOk closed ≡ true → given day ≡ firstOpen mask closed false tries start
   unfolding Passed
   ahead-stop {to} q s l ok =
       take g (omega arith) p q (between closed to day (s .passed ok) (above-from closed to day ok l))
 
-  pub ahead-end : {to : ℕ} → w ≡ false → Scan false closed day to → length closed ≤ to → closedOk closed ≡ true → given day ≡ firstOpen mask closed false 31 start
+  pub ahead-end : {to : ℕ} → w ≡ false → Scan false closed day to → length closed ≤ to → closedOk closed ≡ true → given day ≡ firstOpen mask closed false tries start
   unfolding Passed
   ahead-end {to} q s l ok = take g (omega arith) p q (between closed to day (s .passed ok) (above-end closed to day l))
 
@@ -144,10 +144,10 @@ ahead-next {closed} {day} {at} s l h e =
 pub ruleset ahead-rules = (ahead-start, scan-of-days, is-weekday, days-none, ahead-week, ahead-hit, ahead-stop, ahead-end, ahead-next, needs)
 
 -- ---- back
-module _ {mask : ℕ} {closed : List ℕ} {start at weekday : ℕ} where
-  pub behind-start : SPAN-FIRST ≤ start → start ≤ SPAN-LAST → LowerBound closed (start + 1) at → weekday ≡ (start + 6) % 7 → Days true mask closed start start 31 at weekday
+module _ {mask : ℕ} {closed : List ℕ} {tries start at weekday : ℕ} where
+  pub behind-start : SPAN-FIRST ≤ start → start ≤ SPAN-LAST → tries ≤ 31 → LowerBound closed (start + 1) at → weekday ≡ (start + 6) % 7 → Days true mask closed tries start start tries at weekday
   unfolding Passed
-  behind-start l h b w =
+  behind-start l h few b w =
       record {
         least = omega arith;
         most = omega arith;
@@ -156,15 +156,15 @@ module _ {mask : ℕ} {closed : List ℕ} {start at weekday : ℕ} where
         on = w;
       }
 
-module _ {mask : ℕ} {closed : List ℕ} {start day left at weekday : ℕ} (g : Days true mask closed start day left at weekday) (h : left ≡ 0 → ⊥) {w : Bool} (p : w ≡ eqb (mask / 2 ^ weekday % 2) 1) where
+module _ {mask : ℕ} {closed : List ℕ} {tries start day left at weekday : ℕ} (g : Days true mask closed tries start day left at weekday) (h : left ≡ 0 → ⊥) {w : Bool} (p : w ≡ eqb (mask / 2 ^ weekday % 2) 1) where
   weekday-back : {next : ℕ} → next ≡ (weekday + 6) % 7 → next ≡ (day - 1 + 6) % 7
   weekday-back n = omega (arith, g .on, g .least)
 
-  pub behind-week : {next : ℕ} → next ≡ (weekday + 6) % 7 → w ≡ true → Days true mask closed start (day - 1) (left - 1) at next
+  pub behind-week : {next : ℕ} → next ≡ (weekday + 6) % 7 → w ≡ true → Days true mask closed tries start (day - 1) (left - 1) at next
   unfolding step
   behind-week n q = skip-week g (omega arith) (weekday-back n) p q
 
-  pub behind-hit : {to next : ℕ} → next ≡ (weekday + 6) % 7 → Scan true closed day to → 0 < to → getD closed (to - 1) 0 ≡ day → Days true mask closed start (day - 1) (left - 1) (to - 1) next
+  pub behind-hit : {to next : ℕ} → next ≡ (weekday + 6) % 7 → Scan true closed day to → 0 < to → getD closed (to - 1) 0 ≡ day → Days true mask closed tries start (day - 1) (left - 1) (to - 1) next
   unfolding step Passed
   behind-hit {to} n s l e =
       skip g (omega arith) (weekday-back n) (shut-listed mask closed day (present closed (to - 1) day (omega (arith, s .within)) e))
@@ -173,12 +173,12 @@ module _ {mask : ℕ} {closed : List ℕ} {start day left at weekday : ℕ} (g :
         passed = λ ok. record { after = λ k q r. ⊎-elim (λ (z : to - 1 ≡ k). rw (← z) (omega (arith, g .least))) (λ (z : to - 1 < k). omega (arith, s .passed ok .after k (omega arith) r)) (eq-or-lt-of-le q) };
       })
 
-  pub behind-stop : {to : ℕ} → w ≡ false → Scan true closed day to → 0 < to → getD closed (to - 1) 0 < day → closedOk closed ≡ true → given day ≡ firstOpen mask closed true 31 start
+  pub behind-stop : {to : ℕ} → w ≡ false → Scan true closed day to → 0 < to → getD closed (to - 1) 0 < day → closedOk closed ≡ true → given day ≡ firstOpen mask closed true tries start
   unfolding Passed
   behind-stop {to} q s z l ok =
       take g (omega arith) p q (between closed to day (below-to closed to day ok z (s .within) l) (s .passed ok))
 
-  pub behind-end : {to : ℕ} → w ≡ false → Scan true closed day to → to ≤ 0 → closedOk closed ≡ true → given day ≡ firstOpen mask closed true 31 start
+  pub behind-end : {to : ℕ} → w ≡ false → Scan true closed day to → to ≤ 0 → closedOk closed ≡ true → given day ≡ firstOpen mask closed true tries start
   unfolding Passed
   behind-end {to} q s l ok = take g (omega arith) p q (between closed to day (below-none closed to day l) (s .passed ok))
 

@@ -2,12 +2,12 @@
 -- Assumes nothing.
 use Prim.Native.Nat.{ℕ, suc, _+_, _-_, _%_, _≤_, _<_}
 use mathlib.Core.Path.{_≡_, refl, ap, sym, _∙_}
-use mathlib.Core.Bool.{Bool, true, false, not, _&&_}
+use mathlib.Core.Bool.{Bool, true, false, not, false≢true, _&&_}
 use mathlib.Core.List.{List}
 use native.Mathlib.Omega.{arith}
 use lib.ListN.{length, getD}
 use lib.Dec.{eqb, leb}
-use borrow.Author.Tests.{leb-true, eqb-true, eqb-false, eq-eqb, ne-eqb, not-false}
+use borrow.Author.Tests.{leb-true, eqb-true, eqb-false, eq-eqb, ne-eqb, not-true, not-false}
 use Rattle.refusal.specs.Answer.{Answer, given, refused, need, then, BOOK, TENOR}
 use Rattle.refusal.specs.Laws.Answers.{need-given, then-given, then-refused, both}
 use lib.IntN.{ℤ, natAbs}
@@ -43,6 +43,16 @@ module _ {A B : Type 0} where
   -- what a call handed on is what it answered
   pub then-same : (x y : Answer A) (f : A → Answer B) (r : Answer B) → r ≡ then x f → x ≡ y → r ≡ then y f
   then-same x y f r h e = h ∙ ap (λ (a : Answer A). then a f) e
+
+-- ---- so many days from a day that lies in the span
+pub no-span : {A : Type 0} (t : Bool) (day : ℕ) → t ≡ inSpan day → not t ≡ true → inSpan day ≡ true → A
+no-span t day p e s = absurd (false≢true (sym (not-true t e) ∙ p ∙ s))
+
+pub too-many : {A : Type 0} (tries : ℕ) → 31 < tries → tries ≤ 31 → A
+too-many tries h l = let bad : ⊥ = omega arith in absurd bad
+
+pub this-way : (opens : ℕ → Bool) (b back : Bool) (tries day : ℕ) (r : Answer ℕ) → r ≡ any.firstOpen opens b tries day → back ≡ b → r ≡ any.firstOpen opens back tries day
+this-way opens b back tries day r h e = h ∙ ap (λ (w : Bool). any.firstOpen opens w tries day) (sym e)
 
 -- ---- a single day
 module _ (mask : ℕ) (closed : List ℕ) (day : ℕ) {w : Bool} (p : w ≡ weeklyClosed mask day) where

@@ -8,7 +8,7 @@ use date::span;
 
 // Whether the list keeps its rule: one pass, without a branch for each date. As the dates ascend, the last alone is held against the
 // upper bound.
-pub(crate) fn keep_rule(closed: &[u32]) -> bool
+pub fn keep_rule(closed: &[u32]) -> bool
     ensures { λ r. ⌜ r ≡ closedOk (now (closed .entry)) ⌝ }
 {
     if 4096 < closed.len() {
@@ -81,14 +81,14 @@ fn place_from(closed: &[u32], x: u32, from: usize) -> usize
 }
 
 // The first place whose date is at least x, or the length.
-pub(crate) fn lower_bound(closed: &[u32], x: u32) -> usize
+pub fn lower_bound(closed: &[u32], x: u32) -> usize
     ensures { λ r. ⌜ LowerBound (now (closed .entry)) x r ⌝ }
 {
     bisect(closed, x, 0, closed.len())
 }
 
 // The same place, looked for from a guess: it costs the logarithm of how far the guess was off.
-pub(crate) fn place_near(closed: &[u32], x: u32, guess: usize) -> usize
+pub fn place_near(closed: &[u32], x: u32, guess: usize) -> usize
     ensures { λ r. ⌜ LowerBound (now (closed .entry)) x r ⌝ }
 {
     if guess < closed.len() {

@@ -11,15 +11,15 @@ use period::Unit;
 use period::sign;
 
 // The leaves: the list of closed dates, with its rule and the place of a day in it; the weekly mask; months.
-mod closed_dates;
-mod months;
+pub mod closed_dates;
+pub mod months;
 mod weekdays;
 // The search for open days, and the conventions over it.
 mod conventions;
-mod scan;
 // For the crates above, on days from 1800 to 2399 and a list that they have checked.
 pub mod advances;
 pub mod month_ends;
+pub mod scan;
 pub mod search;
 
 pub enum Convention {

@@ -15,7 +15,7 @@ fn has_begun(later: u32, earlier: u32) -> bool
     later - earlier < f.day
 }
 
-pub(crate) fn same_month(a: u32, b: u32) -> bool
+pub fn same_month(a: u32, b: u32) -> bool
     ensures { λ r. ⌜ (1 ≤ a → 1 ≤ b → r ≡ sameMonth a b) ⌝ }
 {
     if a < b {

@@ -43,14 +43,14 @@ pub(crate) fn is_open(day: u32, mask: u8, closed: &[u32]) -> bool
     is_open_at(closed_dates::lower_bound(closed, day), day, mask, closed)
 }
 
-// The first open day of the thirty-one that start at `day`. The scan of the closed dates starts at its place and never goes back.
-fn ahead(place: usize, day: u32, mask: u8, closed: &[u32]) -> Dated
-    requires { ⌜ (SPAN-FIRST ≤ day) × (day ≤ SPAN-LAST) × LowerBound (now closed) day place ⌝ }
-    ensures { λ r. ⌜ (closedOk (now (closed .entry)) ≡ true → dated r ≡ firstOpen mask (now (closed .entry)) false 31 day) ⌝ }
+// The first open day of as many as are tried, from `day` on. The scan of the closed dates starts at its place and never goes back.
+fn ahead(place: usize, day: u32, tries: u32, mask: u8, closed: &[u32]) -> Dated
+    requires { ⌜ (SPAN-FIRST ≤ day) × (day ≤ SPAN-LAST) × (tries ≤ 31) × LowerBound (now closed) day place ⌝ }
+    ensures { λ r. ⌜ (closedOk (now (closed .entry)) ≡ true → dated r ≡ firstOpen mask (now (closed .entry)) false tries day) ⌝ }
 {
     let mut at = place;
     let mut d = day;
-    let mut left = TRIES;
+    let mut left = tries;
     let mut weekday = weekdays::weekday_of(day);
     let open = 'days: loop {
         if left == 0 {
@@ -79,14 +79,14 @@ fn ahead(place: usize, day: u32, mask: u8, closed: &[u32]) -> Dated
     Dated::Day(Date { day: open })
 }
 
-// The mirror: the first open day of the thirty-one that end at `day`, from the last.
-fn behind(place: usize, day: u32, mask: u8, closed: &[u32]) -> Dated
-    requires { ⌜ (SPAN-FIRST ≤ day) × (day ≤ SPAN-LAST) × LowerBound (now closed) day place ⌝ }
-    ensures { λ r. ⌜ (closedOk (now (closed .entry)) ≡ true → dated r ≡ firstOpen mask (now (closed .entry)) true 31 day) ⌝ }
+// The mirror: the first open day of as many as are tried, from `day` back.
+fn behind(place: usize, day: u32, tries: u32, mask: u8, closed: &[u32]) -> Dated
+    requires { ⌜ (SPAN-FIRST ≤ day) × (day ≤ SPAN-LAST) × (tries ≤ 31) × LowerBound (now closed) day place ⌝ }
+    ensures { λ r. ⌜ (closedOk (now (closed .entry)) ≡ true → dated r ≡ firstOpen mask (now (closed .entry)) true tries day) ⌝ }
 {
     let mut at = closed_dates::place_after(closed, day, place);
     let mut d = day;
-    let mut left = TRIES;
+    let mut left = tries;
     let mut weekday = weekdays::weekday_of(day);
     let open = 'days: loop {
         if left == 0 {
@@ -115,6 +115,23 @@ fn behind(place: usize, day: u32, mask: u8, closed: &[u32]) -> Dated
     Dated::Day(Date { day: open })
 }
 
+// The first open day of at most thirty-one, from a day on, or back.
+pub fn first_open(day: u32, back: bool, tries: u32, mask: u8, closed: &[u32]) -> Dated
+    ensures { λ r. ⌜ (closedOk (now (closed .entry)) ≡ true → inSpan day ≡ true → tries ≤ 31 → dated r ≡ firstOpen mask (now (closed .entry)) back tries day) ⌝ }
+{
+    if !in_span(day) {
+        return Dated::Refused(refusal::BOOK);
+    }
+    if TRIES < tries {
+        return Dated::Refused(refusal::CLOSED);
+    }
+    let place = closed_dates::lower_bound(closed, day);
+    if back {
+        return behind(place, day, tries, mask, closed);
+    }
+    ahead(place, day, tries, mask, closed)
+}
+
 pub(crate) fn following_from(place: usize, day: u32, mask: u8, closed: &[u32]) -> Dated
     requires { ⌜ LowerBound (now closed) day place ⌝ }
     ensures { λ r. ⌜ (closedOk (now (closed .entry)) ≡ true → dated r ≡ adjusted mask (now (closed .entry)) Following day) ⌝ }
@@ -122,7 +139,7 @@ pub(crate) fn following_from(place: usize, day: u32, mask: u8, closed: &[u32]) -
     if !in_span(day) {
         return Dated::Refused(refusal::BOOK);
     }
-    let first = ahead(place, day, mask, closed);
+    let first = ahead(place, day, TRIES, mask, closed);
     match first {
         Dated::Day(open) => span::within(open.day as u64),
         Dated::Refused(n) => Dated::Refused(n),
@@ -136,7 +153,7 @@ pub(crate) fn preceding_from(place: usize, day: u32, mask: u8, closed: &[u32]) -
     if !in_span(day) {
         return Dated::Refused(refusal::BOOK);
     }
-    let first = behind(place, day, mask, closed);
+    let first = behind(place, day, TRIES, mask, closed);
     match first {
         Dated::Day(open) => span::within(open.day as u64),
         Dated::Refused(n) => Dated::Refused(n),

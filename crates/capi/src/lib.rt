@@ -9,6 +9,8 @@ pub mod builds;
 pub mod calendars;
 // Open days by an index.
 pub mod indexes;
+// A desk's closed dates over the house's.
+pub mod desks;
 // IMM dates and codes, and twentieths.
 pub mod cycles;
 // Differences and lengths.

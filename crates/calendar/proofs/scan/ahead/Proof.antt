@@ -9,16 +9,16 @@ use Rattle.calendar.proofs.scan.ahead.Statement.{statement}
 use Rattle.calendar.proofs.scan.ahead.Tie as tie
 
 abbrev Inv-scan : tie.InvT-scan
-Inv-scan place day mask closed at₀ d left weekday here shut at = Scan false closed here at
+Inv-scan place day tries mask closed at₀ d left weekday here shut at = Scan false closed here at
 
 abbrev μ-scan : tie.MeasureT-scan
-μ-scan place day mask closed at₀ d left weekday here shut at = length closed - at
+μ-scan place day tries mask closed at₀ d left weekday here shut at = length closed - at
 
 abbrev Inv-days : tie.InvT-days
-Inv-days place day mask closed at₀ d₀ left₀ weekday₀ at d left weekday = Days false mask closed day d left at weekday
+Inv-days place day tries mask closed at₀ d₀ left₀ weekday₀ at d left weekday = Days false mask closed tries day d left at weekday
 
 abbrev μ-days : tie.MeasureT-days
-μ-days place day mask closed at₀ d₀ left₀ weekday₀ at d left weekday = left
+μ-days place day tries mask closed at₀ d₀ left₀ weekday₀ at d left weekday = left
 
 weekday-of-requires : tie.Need-weekday-of-requires Inv-scan μ-scan Inv-days μ-days
 weekday-of-requires c κs = search ahead-rules

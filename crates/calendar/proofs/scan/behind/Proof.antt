@@ -8,16 +8,16 @@ use Rattle.calendar.proofs.scan.behind.Statement.{statement}
 use Rattle.calendar.proofs.scan.behind.Tie as tie
 
 abbrev Inv-scan : tie.InvT-scan
-Inv-scan place day mask closed at₀ d left weekday here shut at = Scan true closed here at
+Inv-scan place day tries mask closed at₀ d left weekday here shut at = Scan true closed here at
 
 abbrev μ-scan : tie.MeasureT-scan
-μ-scan place day mask closed at₀ d left weekday here shut at = at
+μ-scan place day tries mask closed at₀ d left weekday here shut at = at
 
 abbrev Inv-days : tie.InvT-days
-Inv-days place day mask closed at₀ d₀ left₀ weekday₀ at d left weekday = Days true mask closed day d left at weekday
+Inv-days place day tries mask closed at₀ d₀ left₀ weekday₀ at d left weekday = Days true mask closed tries day d left at weekday
 
 abbrev μ-days : tie.MeasureT-days
-μ-days place day mask closed at₀ d₀ left₀ weekday₀ at d left weekday = left
+μ-days place day tries mask closed at₀ d₀ left₀ weekday₀ at d left weekday = left
 
 place-after-requires : tie.Need-place-after-requires Inv-scan μ-scan Inv-days μ-days
 place-after-requires c κs = search behind-rules

@@ -4,6 +4,7 @@ use Rattle.date.specs.Date.{dated}
 use Rattle.calendar.specs.AnyCalendar.{adjusted, byConvention}
 use Rattle.calendar.specs.Laws.Conventions.{span-from, span-to, look-day, look-refused}
 use Rattle.calendar.specs.Laws.Guards.{barred}
+use native.Mathlib.Omega.{arith}
 use borrow.Author.Needs.{needs}
 use Rattle.calendar.proofs.scan.following_from.Statement.{statement}
 use Rattle.calendar.proofs.scan.following_from.Tie as tie
@@ -19,6 +20,7 @@ ahead-requires : tie.Need-ahead-requires
 ahead-requires c κs = (
   span-from _ _ (c .before .in-span .ensures) (c .if1 .left),
   span-to _ _ (c .before .in-span .ensures) (c .if1 .left),
+  omega arith,
   c .before .before .before .pre,
 )
 

@@ -1,0 +1,56 @@
+// A desk's closed dates over the house's: for each year the desk's if it has any there, otherwise the house's.
+ghost use mathlib.Core.Path.{_≡_};
+ghost use lib.ListN.{length};
+ghost use Rattle.refusal.specs.Answer.{then};
+ghost use Rattle.crossing.specs.Answers.{oneNumber, itself, done};
+ghost use Rattle.crossing.specs.Numbers.{conventionOf};
+ghost use Rattle.desk.specs.Desk.{entriesIn, runOf, askedOf, adjustOverOf};
+ghost use Rattle.desk.specs.Runs.{countOf, Written};
+use crossing::NamedConvention;
+use crossing::answers;
+use date::Date;
+
+// 0 where the run of the year is answered.
+#[no_mangle]
+pub extern "C" fn heronspan_desk_check(desk: &[u32], house: &[u32], year: u32) -> i64
+    ensures { λ r. ⌜ r ≡ oneNumber done (askedOf (now (desk .entry)) (now (house .entry)) year) ⌝ }
+{
+    answers::of_checked(desk::check(desk, house, year))
+}
+
+// How many entries the run of the year has; the list that it stands in and where it starts are written to the first two places.
+#[no_mangle]
+pub extern "C" fn heronspan_desk_run(
+    desk: &[u32],
+    house: &[u32],
+    year: u32,
+    place: &mut [u32],
+) -> i64
+    ensures { λ r. ⌜ (r ≡ oneNumber itself (countOf (now (desk .entry)) (now (house .entry)) year (length (now (place .entry))))) × Written (countOf (now (desk .entry)) (now (house .entry)) year (length (now (place .entry)))) (runOf (now (desk .entry)) (now (house .entry)) year) (entriesIn year (now (desk .entry))) (now (desk .entry)) (now (house .entry)) (now (place .entry)) (now (place .exit)) ⌝ }
+{
+    answers::of_numbered(desk::write_place(desk, house, year, place))
+}
+
+// The day adjusted by a convention, each day that is tried open or closed by the run of its own year.
+#[no_mangle]
+pub extern "C" fn heronspan_desk_adjust<'a>(
+    day: u32,
+    convention: u8,
+    mask: u8,
+    desk: &'a [u32],
+    house: &'a [u32],
+) -> i64
+    ensures { λ r. ⌜ r ≡ oneNumber itself (then (conventionOf convention) (λ c. adjustOverOf mask (now (desk .entry)) (now (house .entry)) c day)) ⌝ }
+{
+    let named = crossing::convention_of(convention);
+    match named {
+        NamedConvention::Is(c) => answers::of_dated(desk::adjust(
+            Date { day },
+            c,
+            mask,
+            desk,
+            house,
+        )),
+        NamedConvention::Refused(n) => answers::minus(n),
+    }
+}

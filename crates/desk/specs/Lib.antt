@@ -1,0 +1,4 @@
+pub mod Desk
+pub mod Runs
+pub mod Laws
+pub mod Sums
