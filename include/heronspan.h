@@ -44,6 +44,9 @@ enum {
     HERONSPAN_CODE = 16,            /* no IMM code, or no IMM date */
     HERONSPAN_REQUEST = 17,         /* a number outside its list */
     HERONSPAN_NOTPLAIN = 19,        /* the coming date alone: a request that it does not answer */
+    HERONSPAN_FULL = 23,            /* a closed date more than 4,096 */
+    HERONSPAN_ICAL = 24,            /* a calendar file that breaks its rule */
+    HERONSPAN_ICALKIND = 25,        /* a calendar file with a timed or recurring event */
     HERONSPAN_SHORTEND = 27         /* end of month on, a positive tenor in days or weeks, and a rule other than Zero */
 };
 /* ---- made so far */
@@ -283,6 +286,12 @@ static inline const char *heronspan_refusal_name(int64_t answer) {
         return "REQUEST";
     case -HERONSPAN_NOTPLAIN:
         return "NOTPLAIN";
+    case -HERONSPAN_FULL:
+        return "FULL";
+    case -HERONSPAN_ICAL:
+        return "ICAL";
+    case -HERONSPAN_ICALKIND:
+        return "ICALKIND";
     case -HERONSPAN_SHORTEND:
         return "SHORTEND";
     /* made so far */

@@ -427,11 +427,11 @@ def with_rooms(questions):
 
 def questions_of(args, kinds):
     if len(args) >= 4 and args[0] == "random" and set(args[4:]) <= set(kinds):
-        builds = requests.random_questions(f"{args[1]} builds", int(args[2]), ["build"])
-        small = requests.random_questions(f"{args[1]} small", int(args[3]), args[4:] or kinds)
+        builds = asking.random_questions(f"{args[1]} builds", int(args[2]), ["build"])
+        small = asking.random_questions(f"{args[1]} small", int(args[3]), args[4:] or kinds)
         return itertools.chain(builds, small)
-    if args[:1] == ["systematic"] and set(args[1:]) <= set(requests.SYSTEMATIC):
-        return requests.systematic_questions(args[1:])
+    if args[:1] == ["systematic"] and set(args[1:]) <= set(asking.SYSTEMATIC):
+        return asking.systematic_questions(args[1:])
     sys.exit(__doc__.strip())
 
 
@@ -441,9 +441,9 @@ def main():
     program = next((word[7:] for word in words if word.startswith("--ours=")), "ours")
     if not words <= {"--room", "--without-ours", "--no-exception", f"--ours={program}"}:
         sys.exit(__doc__.strip())
-    kinds = [*requests.SMALL, *requests.MORE]
+    kinds = [*asking.SMALL, *asking.MORE]
     if "--without-ours" in words:
-        program, kinds = None, [*requests.SMALL, "open"]
+        program, kinds = None, [*asking.SMALL, "open"]
     elif not os.path.exists(os.path.join(BUILT, program)):
         sys.exit(f"compare: missing target/oracle/{program} (oracle/build makes it; --without-ours leaves it out)")
     questions = questions_of(args, kinds)

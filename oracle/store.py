@@ -100,12 +100,12 @@ def main():
         sys.exit(__doc__.strip())
     seed = sys.argv[1]
     os.makedirs(os.path.join(HERE, "answers"), exist_ok=True)
-    q = requests.Questions(f"{seed} stored builds")
+    q = asking.Questions(f"{seed} stored builds")
     builds = kept(iter(lambda: q.build(longest=40), None), BUILDS, lambda line: line.split()[5],
                   lambda outcome: 225 if outcome == "ok" else 20)
     write("builds.txt", [text for pair in builds for text in pair])
     write("tries.txt", compare.rust(["trace" + line[5:] for line, _ in builds]))
-    small = kept(requests.random_questions(f"{seed} stored small", 10**9, requests.SMALL), SMALL,
+    small = kept(asking.random_questions(f"{seed} stored small", 10**9, asking.SMALL), SMALL,
                  lambda line: line.split()[0], lambda outcome: 85 if outcome == "same" else 12)
     write("small.txt", [text for pair in small for text in pair])
     write("twentieths.txt", [text for line, _ in builds + small if compare.excepted(line.split())

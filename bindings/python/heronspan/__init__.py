@@ -45,6 +45,9 @@ class Refusal(IntEnum):
     CODE = 16  # no IMM code, or no IMM date
     REQUEST = 17  # a number outside its list
     NOTPLAIN = 19  # the coming date alone: a request that it does not answer
+    FULL = 23  # a closed date more than 4,096
+    ICAL = 24  # a calendar file that breaks its rule
+    ICALKIND = 25  # a calendar file with a timed or recurring event
     SHORTEND = 27  # end of month on, a positive tenor in days or weeks, and a rule other than Zero
     # made so far
 

@@ -49,13 +49,19 @@ pub enum Refusal {
     Request = 17,
     /// The coming date alone: a request that it does not answer.
     Notplain = 19,
+    /// A closed date more than 4,096.
+    Full = 23,
+    /// A calendar file that breaks its rule.
+    Ical = 24,
+    /// A calendar file with a timed or recurring event.
+    Icalkind = 25,
     /// End of month on, a positive tenor in days or weeks, and a rule other than Zero.
     Shortend = 27,
     // made so far
 }
 
 // made by tools/refusals.py: names
-const REFUSALS: [(Refusal, &str); 19] = [
+const REFUSALS: [(Refusal, &str); 22] = [
     (Refusal::Uneven, "UNEVEN"),
     (Refusal::Book, "BOOK"),
     (Refusal::Calendar, "CALENDAR"),
@@ -74,6 +80,9 @@ const REFUSALS: [(Refusal, &str); 19] = [
     (Refusal::Code, "CODE"),
     (Refusal::Request, "REQUEST"),
     (Refusal::Notplain, "NOTPLAIN"),
+    (Refusal::Full, "FULL"),
+    (Refusal::Ical, "ICAL"),
+    (Refusal::Icalkind, "ICALKIND"),
     (Refusal::Shortend, "SHORTEND"),
 ];
 // made so far

@@ -62,6 +62,15 @@ REQUEST = 17
 abbrev pub NOTPLAIN : ℕ
 NOTPLAIN = 19
 
+abbrev pub FULL : ℕ
+FULL = 23
+
+abbrev pub ICAL : ℕ
+ICAL = 24
+
+abbrev pub ICALKIND : ℕ
+ICALKIND = 25
+
 abbrev pub SHORTEND : ℕ
 SHORTEND = 27
 

@@ -38,6 +38,9 @@ refusals =
     ∷ refusal 16 "CODE" "no IMM code, or no IMM date"
     ∷ refusal 17 "REQUEST" "a number outside its list"
     ∷ refusal 19 "NOTPLAIN" "the coming date alone: a request that it does not answer"
+    ∷ refusal 23 "FULL" "a closed date more than 4,096"
+    ∷ refusal 24 "ICAL" "a calendar file that breaks its rule"
+    ∷ refusal 25 "ICALKIND" "a calendar file with a timed or recurring event"
     ∷ refusal 27 "SHORTEND" "end of month on, a positive tenor in days or weeks, and a rule other than Zero"
     ∷ []
 

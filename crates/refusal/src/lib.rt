@@ -39,6 +39,12 @@ pub const REQUEST: u8 = 17;
 
 pub const NOTPLAIN: u8 = 19;
 
+pub const FULL: u8 = 23;
+
+pub const ICAL: u8 = 24;
+
+pub const ICALKIND: u8 = 25;
+
 pub const SHORTEND: u8 = 27;
 // ---- made so far
 
@@ -46,7 +52,7 @@ pub const SHORTEND: u8 = 27;
 pub struct Row(pub u8, pub usize, pub [u8; 16]);
 
 // ---- made by tools/refusals.py: rows
-pub const ROWS: [Row; 19] = [
+pub const ROWS: [Row; 22] = [
     Row(UNEVEN, 6, *b"UNEVEN          "),
     Row(BOOK, 4, *b"BOOK            "),
     Row(CALENDAR, 8, *b"CALENDAR        "),
@@ -65,6 +71,9 @@ pub const ROWS: [Row; 19] = [
     Row(CODE, 4, *b"CODE            "),
     Row(REQUEST, 7, *b"REQUEST         "),
     Row(NOTPLAIN, 8, *b"NOTPLAIN        "),
+    Row(FULL, 4, *b"FULL            "),
+    Row(ICAL, 4, *b"ICAL            "),
+    Row(ICALKIND, 8, *b"ICALKIND        "),
     Row(SHORTEND, 8, *b"SHORTEND        "),
 ];
 // ---- made so far
