@@ -49,6 +49,8 @@ enum {
     HERONSPAN_INDEX = 21,           /* an index that has not 601 places */
     HERONSPAN_SAME_DATE = 22,       /* adding a date that is closed already, or removing one that is not listed */
     HERONSPAN_FULL = 23,            /* a closed date more than 4,096 */
+    HERONSPAN_ICAL = 24,            /* a calendar file that breaks its rule */
+    HERONSPAN_ICALKIND = 25,        /* a calendar file with a timed or recurring event */
     HERONSPAN_REVERSED = 26,        /* an end before its start */
     HERONSPAN_SHORTEND = 27         /* end of month on, a positive tenor in days or weeks, and a rule other than Zero */
 };
@@ -413,6 +415,10 @@ static inline const char *heronspan_refusal_name(int64_t answer) {
         return "SAME";
     case -HERONSPAN_FULL:
         return "FULL";
+    case -HERONSPAN_ICAL:
+        return "ICAL";
+    case -HERONSPAN_ICALKIND:
+        return "ICALKIND";
     case -HERONSPAN_REVERSED:
         return "REVERSED";
     case -HERONSPAN_SHORTEND:

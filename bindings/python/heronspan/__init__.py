@@ -52,6 +52,8 @@ class Refusal(IntEnum):
     INDEX = 21  # an index that has not 601 places
     SAME = 22  # adding a date that is closed already, or removing one that is not listed
     FULL = 23  # a closed date more than 4,096
+    ICAL = 24  # a calendar file that breaks its rule
+    ICALKIND = 25  # a calendar file with a timed or recurring event
     REVERSED = 26  # an end before its start
     SHORTEND = 27  # end of month on, a positive tenor in days or weeks, and a rule other than Zero
     # made so far

@@ -58,6 +58,10 @@ pub enum Refusal {
     Same = 22,
     /// A closed date more than 4,096.
     Full = 23,
+    /// A calendar file that breaks its rule.
+    Ical = 24,
+    /// A calendar file with a timed or recurring event.
+    Icalkind = 25,
     /// An end before its start.
     Reversed = 26,
     /// End of month on, a positive tenor in days or weeks, and a rule other than Zero.
@@ -66,7 +70,7 @@ pub enum Refusal {
 }
 
 // made by tools/refusals.py: names
-const REFUSALS: [(Refusal, &str); 24] = [
+const REFUSALS: [(Refusal, &str); 26] = [
     (Refusal::Uneven, "UNEVEN"),
     (Refusal::Book, "BOOK"),
     (Refusal::Calendar, "CALENDAR"),
@@ -89,6 +93,8 @@ const REFUSALS: [(Refusal, &str); 24] = [
     (Refusal::Index, "INDEX"),
     (Refusal::Same, "SAME"),
     (Refusal::Full, "FULL"),
+    (Refusal::Ical, "ICAL"),
+    (Refusal::Icalkind, "ICALKIND"),
     (Refusal::Reversed, "REVERSED"),
     (Refusal::Shortend, "SHORTEND"),
 ];

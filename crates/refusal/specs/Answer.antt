@@ -74,6 +74,12 @@ SAME = 22
 abbrev pub FULL : ℕ
 FULL = 23
 
+abbrev pub ICAL : ℕ
+ICAL = 24
+
+abbrev pub ICALKIND : ℕ
+ICALKIND = 25
+
 abbrev pub REVERSED : ℕ
 REVERSED = 26
 

@@ -42,6 +42,8 @@ refusals =
     ∷ refusal 21 "INDEX" "an index that has not 601 places"
     ∷ refusal 22 "SAME" "adding a date that is closed already, or removing one that is not listed"
     ∷ refusal 23 "FULL" "a closed date more than 4,096"
+    ∷ refusal 24 "ICAL" "a calendar file that breaks its rule"
+    ∷ refusal 25 "ICALKIND" "a calendar file with a timed or recurring event"
     ∷ refusal 26 "REVERSED" "an end before its start"
     ∷ refusal 27 "SHORTEND" "end of month on, a positive tenor in days or weeks, and a rule other than Zero"
     ∷ []

@@ -47,6 +47,10 @@ pub const SAME: u8 = 22;
 
 pub const FULL: u8 = 23;
 
+pub const ICAL: u8 = 24;
+
+pub const ICALKIND: u8 = 25;
+
 pub const REVERSED: u8 = 26;
 
 pub const SHORTEND: u8 = 27;
@@ -56,7 +60,7 @@ pub const SHORTEND: u8 = 27;
 pub struct NameRow(pub u8, pub usize, pub [u8; 16]);
 
 // ---- made by tools/refusals.py: rows
-pub const ROWS: [NameRow; 24] = [
+pub const ROWS: [NameRow; 26] = [
     NameRow(UNEVEN, 6, *b"UNEVEN          "),
     NameRow(BOOK, 4, *b"BOOK            "),
     NameRow(CALENDAR, 8, *b"CALENDAR        "),
@@ -79,6 +83,8 @@ pub const ROWS: [NameRow; 24] = [
     NameRow(INDEX, 5, *b"INDEX           "),
     NameRow(SAME, 4, *b"SAME            "),
     NameRow(FULL, 4, *b"FULL            "),
+    NameRow(ICAL, 4, *b"ICAL            "),
+    NameRow(ICALKIND, 8, *b"ICALKIND        "),
     NameRow(REVERSED, 8, *b"REVERSED        "),
     NameRow(SHORTEND, 8, *b"SHORTEND        "),
 ];

@@ -1,0 +1,10 @@
+pub mod LineWays
+pub mod WordWays
+pub mod DateWays
+pub mod DayWays
+pub mod ParameterWays
+pub mod PartWays
+pub mod EventWays
+pub mod TurnWays
+pub mod WalkWays
+pub mod ImportWays

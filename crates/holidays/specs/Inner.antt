@@ -1,0 +1,11 @@
+pub mod Cut
+pub mod Along
+pub mod Letters
+pub mod Pieces
+pub mod Digits
+pub mod Days
+pub mod Parameters
+pub mod Parts
+pub mod Events
+pub mod Turns
+pub mod Walking

@@ -1,0 +1,11 @@
+pub mod Words
+pub mod Lines
+pub mod Content
+pub mod Nesting
+pub mod Dated
+pub mod Events
+pub mod Import
+pub mod Promise
+pub mod Sums
+pub mod Inner
+pub mod Laws
