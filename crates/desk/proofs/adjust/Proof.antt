@@ -27,7 +27,11 @@ by-convention-requires c κs = let s = c .before .is-sound .ensures in (desk-ok 
 
 returns-3 : tie.Need-returns-3
 unfolding adjustOverOf
-returns-3 c = cleared _ _ _ _ _ (c .before .before .before .before .in-book .ensures) (c .before .before .before .if1 .left) (cleared _ _ _ _ _ (c .before .before .is-sound .ensures) (c .before .if2 .left) (c .by-convention .ensures))
+returns-3 c =
+    let is-sound : tie.After-is-sound = search in
+    let else1 : tie.Else1 = search in
+    let in-book : tie.After-in-book = search in
+    cleared _ _ _ _ _ (in-book .in-book .ensures) (else1 .if1 .left) (cleared _ _ _ _ _ (is-sound .is-sound .ensures) (c .before .if2 .left) (c .by-convention .ensures))
 
 pub adjust-spec : {M : Type 1} → statement M
 adjust-spec =

@@ -25,11 +25,21 @@ is-covered-requires c κs = search needs
 
 returns-3 : tie.Need-returns-3
 unfolding checked
-returns-3 c = no-year _ _ _ _ (c .before .before .before .before .before .keep-rule .ensures) (c .before .before .before .before .if1 .left) _ (c .before .before .before .keep-rule2 .ensures) (c .before .before .if2 .left) _ (c .before .is-covered .ensures) (c .if3 .taken)
+returns-3 c =
+    let else2 : tie.Else2 = search in
+    let keep-rule2 : tie.After-keep-rule2 = search in
+    let else1 : tie.Else1 = search in
+    let keep-rule : tie.After-keep-rule = search in
+    no-year _ _ _ _ (keep-rule .keep-rule .ensures) (else1 .if1 .left) _ (keep-rule2 .keep-rule2 .ensures) (else2 .if2 .left) _ (c .before .is-covered .ensures) (c .if3 .taken)
 
 returns-4 : tie.Need-returns-4
 unfolding checked
-returns-4 c = all-sound _ _ _ _ (c .before .before .before .before .before .keep-rule .ensures) (c .before .before .before .before .if1 .left) _ (c .before .before .before .keep-rule2 .ensures) (c .before .before .if2 .left) _ (c .before .is-covered .ensures) (c .if3 .left)
+returns-4 c =
+    let else2 : tie.Else2 = search in
+    let keep-rule2 : tie.After-keep-rule2 = search in
+    let else1 : tie.Else1 = search in
+    let keep-rule : tie.After-keep-rule = search in
+    all-sound _ _ _ _ (keep-rule .keep-rule .ensures) (else1 .if1 .left) _ (keep-rule2 .keep-rule2 .ensures) (else2 .if2 .left) _ (c .before .is-covered .ensures) (c .if3 .left)
 
 pub check-spec : {M : Type 1} → statement M
 check-spec =

@@ -31,7 +31,10 @@ returns : tie.Need-returns
 returns c = c .held .ensures ∙ sym (answered _ _ _ _ (c .before .before .before .check .ensures) (c .before .enum-told .given .1))
 
 returns-2 : tie.Need-returns-2
-returns-2 c = sym (unanswered _ _ _ (c .before .before .before .before .check .result) (c .before .before .before .before .check .ensures) (c .before .before .asked .given .0 .0) (cc))
+returns-2 c =
+    let asked : tie.After-asked = search in
+    let check : tie.After-check = search in
+    sym (unanswered _ _ _ (check .check .result) (check .check .ensures) (asked .asked .given .0 .0) (cc))
 
 pub run-spec : {M : Type 1} → statement M
 run-spec =

@@ -25,12 +25,16 @@ minus-requires c κs = search needs
 
 returns : tie.Need-returns
 returns c =
+    let at-named : tie.After-named = search in
+    let basis-of : tie.After-basis-of = search in
     told bits (c .of-basis .ok) _ _ (c .of-basis .ensures)
-    (named _ _ _ _ (basis-named (c .before .before .before .before .basis-of .ensures) _ (c .before .before .named .given .1)) refl)
+    (named _ _ _ _ (basis-named (basis-of .basis-of .ensures) _ (at-named .named .given .1)) refl)
 
 returns-2 : tie.Need-returns-2
 returns-2 c =
-    told-refused bits (c .minus .ok) _ _ (c .minus .ensures) (unnamed _ _ _ (basis-unnamed (c .before .before .before .before .basis-of .ensures) _ (c .before .before .named2 .given .1)))
+    let named2 : tie.After-named2 = search in
+    let basis-of : tie.After-basis-of = search in
+    told-refused bits (c .minus .ok) _ _ (c .minus .ensures) (unnamed _ _ _ (basis-unnamed (basis-of .basis-of .ensures) _ (named2 .named2 .given .1)))
 
 pub fraction-spec : {M : Type 1} → statement M
 fraction-spec =

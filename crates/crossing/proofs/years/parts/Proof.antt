@@ -20,7 +20,10 @@ enum-known-named-2 : tie.Need-enum-known-named-2
 enum-known-named-2 c = search needs
 
 returns : tie.Need-returns
-returns c = named _ _ _ _ (basis-named (c .before .before .before .before .basis-of .ensures) _ (c .before .before .named .given .1)) (c .year-parts .ensures)
+returns c =
+    let at-named : tie.After-named = search in
+    let basis-of : tie.After-basis-of = search in
+    named _ _ _ _ (basis-named (basis-of .basis-of .ensures) _ (at-named .named .given .1)) (c .year-parts .ensures)
 
 returns-2 : tie.Need-returns-2
 unfolding parted

@@ -12,7 +12,9 @@ first-open-requires : tie.Need-first-open-requires
 first-open-requires c κs = search needs
 
 returns : tie.Need-returns
-returns c = first-there _ _ _ _ _ _ _ _ _ (c .before .before .before .before .pre) (c .before .held .ensures) (c .first-open .ensures)
+returns c =
+    let start : tie.Start = search in
+    first-there _ _ _ _ _ _ _ _ _ (start .pre) (c .before .held .ensures) (c .first-open .ensures)
 
 pub first-in-spec : {M : Type 1} → statement M
 first-in-spec = tie.close (tie.spec held-requires first-open-requires returns)

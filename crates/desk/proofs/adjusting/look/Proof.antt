@@ -22,11 +22,18 @@ enum-known-first-2 : tie.Need-enum-known-first-2
 enum-known-first-2 c = search needs
 
 returns : tie.Need-returns
-returns c = let i = c .before .before .before .before .before .first-over in found-day _ _ _ (c .before .before .before .before .before .before .before .before .pre .2) (i .result) (i .ensures) (c .before .before .before .first .given .0 .0) _ (cc) (c .within .ensures)
+returns c =
+    let first : tie.After-first = search in
+    let first-over : tie.After-first-over = search in
+    let start : tie.Start = search in
+    let i = first-over .first-over in found-day _ _ _ (start .pre .2) (i .result) (i .ensures) (first .first .given .0 .0) _ (cc) (c .within .ensures)
 
 returns-2 : tie.Need-returns-2
 unfolding dated
-returns-2 c = let i = c .before .before .before .first-over in found-none _ _ _ (c .before .before .before .before .before .before .pre .2) (i .result) (i .ensures) (c .before .first2 .given .0 .0) (cc)
+returns-2 c =
+    let first-over : tie.After-first-over = search in
+    let start : tie.Start = search in
+    let i = first-over .first-over in found-none _ _ _ (start .pre .2) (i .result) (i .ensures) (c .before .first2 .given .0 .0) (cc)
 
 pub look-spec : {M : Type 1} → statement M
 look-spec =

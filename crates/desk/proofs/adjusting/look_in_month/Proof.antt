@@ -17,7 +17,10 @@ same-month-requires c κs = search needs
 
 returns : tie.Need-returns
 unfolding dated
-returns c = let i = c .before .before .before .before .before .look in modified-kept _ _ _ (i .result) (i .ensures) (c .before .before .before .first .given .0 .0) _ (cc) (c .before .same-month .ensures) (c .if1 .taken)
+returns c =
+    let first : tie.After-first = search in
+    let look : tie.After-look = search in
+    let i = look .look in modified-kept _ _ _ (i .result) (i .ensures) (first .first .given .0 .0) _ (cc) (c .before .same-month .ensures) (c .if1 .taken)
 
 look-requires-2 : tie.Need-look-requires-2
 look-requires-2 c κs = search needs
@@ -26,7 +29,11 @@ enum-known-first-2 : tie.Need-enum-known-first-2
 enum-known-first-2 c = search needs
 
 returns-2 : tie.Need-returns-2
-returns-2 c = let i = c .before .before .before .before .before .before .look in modified-left _ _ _ (i .result) (i .ensures) (c .before .before .before .before .first .given .0 .0) _ _ (cc) (c .before .before .same-month .ensures) (c .before .if1 .left) (c .look2 .ensures)
+returns-2 c =
+    let same-month : tie.After-same-month = search in
+    let first : tie.After-first = search in
+    let look : tie.After-look = search in
+    let i = look .look in modified-left _ _ _ (i .result) (i .ensures) (first .first .given .0 .0) _ _ (cc) (same-month .same-month .ensures) (c .before .if1 .left) (c .look2 .ensures)
 
 returns-3 : tie.Need-returns-3
 unfolding dated

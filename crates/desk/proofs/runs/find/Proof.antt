@@ -21,10 +21,18 @@ sub-t8 : tie.Need-sub-t8
 sub-t8 c = search needs
 
 returns-2 : tie.Need-returns-2
-returns-2 c = stands-house _ _ _ (c .before .before .before .before .before .before .stretch-of .ensures) (c .before .before .before .before .if1 .left) (c .before .before .before .stretch-of2 .ensures) (c .before .if2 .taken)
+returns-2 c =
+    let stretch-of2 : tie.After-stretch-of2 = search in
+    let else1 : tie.Else1 = search in
+    let stretch-of : tie.After-stretch-of = search in
+    stands-house _ _ _ (stretch-of .stretch-of .ensures) (else1 .if1 .left) (stretch-of2 .stretch-of2 .ensures) (c .before .if2 .taken)
 
 returns-3 : tie.Need-returns-3
-returns-3 c = stands-none _ _ _ (c .before .before .before .before .before .stretch-of .ensures) (c .before .before .before .if1 .left) (c .before .before .stretch-of2 .ensures) (c .if2 .left)
+returns-3 c =
+    let stretch-of2 : tie.After-stretch-of2 = search in
+    let else1 : tie.Else1 = search in
+    let stretch-of : tie.After-stretch-of = search in
+    stands-none _ _ _ (stretch-of .stretch-of .ensures) (else1 .if1 .left) (stretch-of2 .stretch-of2 .ensures) (c .if2 .left)
 
 pub find-spec : {M : Type 1} → statement M
 find-spec =

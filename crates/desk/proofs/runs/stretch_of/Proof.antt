@@ -15,13 +15,19 @@ last-of-requires : tie.Need-last-of-requires
 last-of-requires c κs = search needs
 
 add-place-near : tie.Need-add-place-near
-add-place-near c = record { fits = last-fits _ _ (c .before .before .before .before .pre .1) (c .last-of .ensures (c .before .before .before .before .pre .1)) }
+add-place-near c =
+    let start : tie.Start = search in
+    record { fits = last-fits _ _ (start .pre .1) (c .last-of .ensures (start .pre .1)) }
 
 place-near-requires : tie.Need-place-near-requires
 place-near-requires c κs = search needs
 
 returns : tie.Need-returns
-returns c = let s = c .before .before .before .before .before .pre in part-there _ _ _ _ _ _ (s .0) (s .1) (c .before .before .before .first-of .ensures (s .1)) (c .before .last-of .ensures (s .1)) (c .before .before .lower-bound .ensures) (c .place-near .ensures)
+returns c =
+    let lower-bound : tie.After-lower-bound = search in
+    let first-of : tie.After-first-of = search in
+    let start : tie.Start = search in
+    let s = start .pre in part-there _ _ _ _ _ _ (s .0) (s .1) (first-of .first-of .ensures (s .1)) (c .before .last-of .ensures (s .1)) (lower-bound .lower-bound .ensures) (c .place-near .ensures)
 
 pub stretch-of-spec : {M : Type 1} → statement M
 stretch-of-spec =

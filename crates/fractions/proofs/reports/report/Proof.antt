@@ -36,7 +36,8 @@ returns-3 c = search reports
 
 sums-between-requires : tie.Need-sums-between-requires
 sums-between-requires c κs =
-    let b = c .before .before .before .before in
+    let then2 : tie.Then2 = search in
+    let b = then2 in
     (omega arith, first-last _ _ (b .before .in-order .ensures) (b .if2 .taken) (b .before .before .if1 .left), omega arith)
 
 returns-4 : tie.Need-returns-4

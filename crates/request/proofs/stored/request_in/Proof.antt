@@ -79,20 +79,37 @@ element-copy-out-byte-in-5 : tie.Need-element-copy-out-byte-in-5
 element-copy-out-byte-in-5 c = search requests-in
 
 byte-in-requires-5 : tie.Need-byte-in-requires-5
-byte-in-requires-5 c κs = c .before .before .before .before .before .before .before .before .before .before .before .before .before .before .before .before .before .before .before .before .before .before .before .pre
+byte-in-requires-5 c κs =
+    let byte-in3 : tie.After-byte-in3 = search in
+    let tenor-in : tie.After-tenor-in = search in
+    let start : tie.Start = search in
+    start .pre
 
 returns : tie.Need-returns
 returns c =
-    fields-stored (now (c .before .before .before .before .before .before .before .before .before .before .before .before .before .before .before .before .before .before .before .before .before .before .before .before .args .bytes)) (now (c .before .before .before .before .before .before .before .before .before .before .before .before .before .before .before .before .before .before .before .before .before .before .before .before .args .places))
-    (c .before .before .before .before .before .before .before .before .before .before .before .before .before .before .before .before .before .before .before .before .before .date-in .ensures)
-    (c .before .before .before .before .before .before .before .before .before .before .before .before .before .before .before .before .before .before .before .date-in2 .ensures)
-    (c .before .before .before .before .before .before .before .before .before .before .before .before .before .before .before .before .before .tenor-in .ensures)
-    (c .before .before .before .before .before .before .before .before .before .before .before .before .before .before .before .byte-in .ensures) (c .before .before .before .before .before .before .before .before .before .before .before .before .before .before .rule-of .ensures)
-    (c .before .before .before .before .before .before .before .before .before .before .before .before .byte-in2 .ensures) (c .before .before .before .before .before .before .before .before .before .before .before .convention-of .ensures)
-    (c .before .before .before .before .before .before .before .before .before .byte-in3 .ensures) (c .before .before .before .before .before .before .before .before .convention-of2 .ensures)
-    (c .before .before .before .before .before .before .byte-in4 .ensures)
-    (c .before .before .before .before .date-in3 .ensures)
-    (c .before .before .date-in4 .ensures)
+    let date-in4 : tie.After-date-in4 = search in
+    let date-in3 : tie.After-date-in3 = search in
+    let byte-in4 : tie.After-byte-in4 = search in
+    let convention-of2 : tie.After-convention-of2 = search in
+    let byte-in3 : tie.After-byte-in3 = search in
+    let convention-of : tie.After-convention-of = search in
+    let byte-in2 : tie.After-byte-in2 = search in
+    let rule-of : tie.After-rule-of = search in
+    let byte-in : tie.After-byte-in = search in
+    let tenor-in : tie.After-tenor-in = search in
+    let date-in2 : tie.After-date-in2 = search in
+    let date-in : tie.After-date-in = search in
+    let start : tie.Start = search in
+    fields-stored (now (start .args .bytes)) (now (start .args .places))
+    (date-in .date-in .ensures)
+    (date-in2 .date-in2 .ensures)
+    (tenor-in .tenor-in .ensures)
+    (byte-in .byte-in .ensures) (rule-of .rule-of .ensures)
+    (byte-in2 .byte-in2 .ensures) (convention-of .convention-of .ensures)
+    (byte-in3 .byte-in3 .ensures) (convention-of2 .convention-of2 .ensures)
+    (byte-in4 .byte-in4 .ensures)
+    (date-in3 .date-in3 .ensures)
+    (date-in4 .date-in4 .ensures)
     (c .byte-in5 .ensures)
 
 pub request-in-spec : {M : Type 1} → statement M
