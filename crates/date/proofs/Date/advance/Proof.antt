@@ -28,8 +28,10 @@ shift-by-requires c κs = search needs
 returns : tie.Need-returns
 unfolding advanceOf
 returns c =
-    let b = c .before .before .before .before .before in
-    passed _ _ _ _ _ (c .before .before .before .before .in-book .ensures) (c .before .before .before .if1 .taken) (cc (same32 _ (b .fits .n)))
+    let then1 : tie.Then1 = search in
+    let in-book : tie.After-in-book = search in
+    let start : tie.Start = search in
+    passed _ _ _ _ _ (in-book .in-book .ensures) (then1 .if1 .taken) (cc (same32 _ (start .fits .n)))
 
 returns-2 : tie.Need-returns-2
 unfolding dated advanceOf
