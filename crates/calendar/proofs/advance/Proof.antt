@@ -39,14 +39,18 @@ is-short-requires c κs = search needs
 returns-3 : tie.Need-returns-3
 unfolding dated advancedOf
 returns-3 c =
-    let short = c .before in
-    let told = short .before .before .before .before .before in
-    let sound = told .before in
-    let book = sound .before .before in
-    let fits : SFits w32 (book .before .before .args .tenor .length) = record { sfits = short .before .before .before .before .struct-told .given .0 .1 } in
-    cleared _ _ _ _ _ (book .in-book .ensures) (sound .before .if1 .left)
-    (cleared _ _ _ _ _ (sound .is-sound .ensures) (told .if2 .left)
-    (tenor-long (book .before .before .args .tenor .length) _ _ _ _ (same32 _ fits) (short .before .size .ensures) (short .is-short .ensures) _ (c .if3 .taken)))
+    let short : tie.After-is-short = search in
+    let size : tie.After-size = search in
+    let told : tie.After-struct-told = search in
+    let in-rule : tie.Else2 = search in
+    let sound : tie.After-is-sound = search in
+    let in-it : tie.Else1 = search in
+    let book : tie.After-in-book = search in
+    let start : tie.Start = search in
+    let fits : SFits w32 (start .args .tenor .length) = record { sfits = told .struct-told .given .0 .1 } in
+    cleared _ _ _ _ _ (book .in-book .ensures) (in-it .if1 .left)
+    (cleared _ _ _ _ _ (sound .is-sound .ensures) (in-rule .if2 .left)
+    (tenor-long (start .args .tenor .length) _ _ _ _ (same32 _ fits) (size .size .ensures) (short .is-short .ensures) _ (c .if3 .taken)))
 
 advance-requires : tie.Need-advance-requires
 advance-requires c κs = search needs
@@ -54,15 +58,20 @@ advance-requires c κs = search needs
 returns-4 : tie.Need-returns-4
 unfolding advancedOf
 returns-4 c =
-    let short = c .before .before in
-    let told = short .before .before .before .before .before in
-    let sound = told .before in
-    let book = sound .before .before in
-    let fits : SFits w32 (book .before .before .args .tenor .length) = record { sfits = short .before .before .before .before .struct-told .given .0 .1 } in
-    cleared _ _ _ _ _ (book .in-book .ensures) (sound .before .if1 .left)
-    (cleared _ _ _ _ _ (sound .is-sound .ensures) (told .if2 .left)
-    (tenor-fits (book .before .before .args .tenor .length) _ _ _ _ (same32 _ fits) (short .before .size .ensures) (short .is-short .ensures) _ _ _ _ _ _ _ (short .before .before .before .is-negative .ensures) (c .before .if3 .left)
-    (c .advance .ensures (sound-closed _ _ _ (sound .is-sound .ensures) (told .if2 .left)))))
+    let short : tie.After-is-short = search in
+    let size : tie.After-size = search in
+    let negative : tie.After-is-negative = search in
+    let told : tie.After-struct-told = search in
+    let in-rule : tie.Else2 = search in
+    let sound : tie.After-is-sound = search in
+    let in-it : tie.Else1 = search in
+    let book : tie.After-in-book = search in
+    let start : tie.Start = search in
+    let fits : SFits w32 (start .args .tenor .length) = record { sfits = told .struct-told .given .0 .1 } in
+    cleared _ _ _ _ _ (book .in-book .ensures) (in-it .if1 .left)
+    (cleared _ _ _ _ _ (sound .is-sound .ensures) (in-rule .if2 .left)
+    (tenor-fits (start .args .tenor .length) _ _ _ _ (same32 _ fits) (size .size .ensures) (short .is-short .ensures) _ _ _ _ _ _ _ (negative .is-negative .ensures) (c .before .if3 .left)
+    (c .advance .ensures (sound-closed _ _ _ (sound .is-sound .ensures) (in-rule .if2 .left)))))
 
 pub advance-spec : {M : Type 1} → statement M
 advance-spec =

@@ -39,8 +39,11 @@ is-sound-requires-2 c κs = search needs
 returns-4 : tie.Need-returns-4
 unfolding decided isMonthEndOf unlessEmpty
 returns-4 c =
-    rw (ne-eqb _ 0 (c .before .before .before .before .if1 .left))
-    (cleared _ _ _ _ _ (c .before .before .before .in-book .ensures) (c .before .before .if3 .left)
+    let else3 : tie.Else3 = search in
+    let in-book : tie.After-in-book = search in
+    let else1 : tie.Else1 = search in
+    rw (ne-eqb _ 0 (else1 .if1 .left))
+    (cleared _ _ _ _ _ (in-book .in-book .ensures) (else3 .if3 .left)
     (barred _ _ _ _ (c .before .is-sound2 .ensures) (c .if4 .taken)))
 
 at-month-end-requires : tie.Need-at-month-end-requires
@@ -49,11 +52,14 @@ at-month-end-requires c κs = search needs
 returns-5 : tie.Need-returns-5
 unfolding decided isMonthEndOf unlessEmpty
 returns-5 c =
-    let sound = c .before .before .is-sound2 in
-    rw (ne-eqb _ 0 (c .before .before .before .before .before .if1 .left))
-    (cleared _ _ _ _ _ (c .before .before .before .before .in-book .ensures) (c .before .before .before .if3 .left)
-    (cleared _ _ _ _ _ (sound .ensures) (c .before .if4 .left)
-    (c .at-month-end .ensures (sound-closed _ _ _ (sound .ensures) (c .before .if4 .left)))))
+    let sound : tie.After-is-sound2 = search in
+    let else3 : tie.Else3 = search in
+    let in-book : tie.After-in-book = search in
+    let else1 : tie.Else1 = search in
+    rw (ne-eqb _ 0 (else1 .if1 .left))
+    (cleared _ _ _ _ _ (in-book .in-book .ensures) (else3 .if3 .left)
+    (cleared _ _ _ _ _ (sound .is-sound2 .ensures) (c .before .if4 .left)
+    (c .at-month-end .ensures (sound-closed _ _ _ (sound .is-sound2 .ensures) (c .before .if4 .left)))))
 
 pub is-month-end-spec : {M : Type 1} → statement M
 is-month-end-spec =

@@ -31,20 +31,24 @@ is-open-requires c κs = search needs
 returns-3 : tie.Need-returns-3
 unfolding decided isOpenOf
 returns-3 c =
-    let sound = c .before .before .before .is-sound in
-    let book = c .before .before .before .before .before .in-book in
-    cleared _ _ _ _ _ (book .ensures) (c .before .before .before .before .if1 .left)
-    (cleared _ _ _ _ _ (sound .ensures) (c .before .before .if2 .left)
-    (ap given (sym (c .if3 .taken) ∙ c .before .is-open .ensures (sound-closed _ _ _ (sound .ensures) (c .before .before .if2 .left)))))
+    let else2 : tie.Else2 = search in
+    let sound : tie.After-is-sound = search in
+    let else1 : tie.Else1 = search in
+    let book : tie.After-in-book = search in
+    cleared _ _ _ _ _ (book .in-book .ensures) (else1 .if1 .left)
+    (cleared _ _ _ _ _ (sound .is-sound .ensures) (else2 .if2 .left)
+    (ap given (sym (c .if3 .taken) ∙ c .before .is-open .ensures (sound-closed _ _ _ (sound .is-sound .ensures) (else2 .if2 .left)))))
 
 returns-4 : tie.Need-returns-4
 unfolding decided isOpenOf
 returns-4 c =
-    let sound = c .before .before .before .is-sound in
-    let book = c .before .before .before .before .before .in-book in
-    cleared _ _ _ _ _ (book .ensures) (c .before .before .before .before .if1 .left)
-    (cleared _ _ _ _ _ (sound .ensures) (c .before .before .if2 .left)
-    (ap given (sym (c .if3 .left) ∙ c .before .is-open .ensures (sound-closed _ _ _ (sound .ensures) (c .before .before .if2 .left)))))
+    let else2 : tie.Else2 = search in
+    let sound : tie.After-is-sound = search in
+    let else1 : tie.Else1 = search in
+    let book : tie.After-in-book = search in
+    cleared _ _ _ _ _ (book .in-book .ensures) (else1 .if1 .left)
+    (cleared _ _ _ _ _ (sound .is-sound .ensures) (else2 .if2 .left)
+    (ap given (sym (c .if3 .left) ∙ c .before .is-open .ensures (sound-closed _ _ _ (sound .is-sound .ensures) (else2 .if2 .left)))))
 
 pub is-open-spec : {M : Type 1} → statement M
 is-open-spec =

@@ -19,8 +19,12 @@ code-after-requires c κs = search needs
 
 returns : tie.Need-returns
 unfolding codeIn dated then codeAfter
-returns c = passed _ _ _ _ _ (c .before .before .before .before .in-book .ensures) (c .before .before .before .if1 .taken)
-    (passed _ _ _ _ _ (c .before .before .is-imm-day .ensures) (c .before .if2 .taken) (c .code-after .ensures))
+returns c =
+    let is-imm-day : tie.After-is-imm-day = search in
+    let then1 : tie.Then1 = search in
+    let in-book : tie.After-in-book = search in
+    passed _ _ _ _ _ (in-book .in-book .ensures) (then1 .if1 .taken)
+    (passed _ _ _ _ _ (is-imm-day .is-imm-day .ensures) (c .before .if2 .taken) (c .code-after .ensures))
 
 returns-2 : tie.Need-returns-2
 unfolding coded codeIn

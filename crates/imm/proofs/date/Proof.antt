@@ -22,22 +22,38 @@ month-of-requires : tie.Need-month-of-requires
 month-of-requires c κs = search needs
 
 shared-slice-read-date-of : tie.Need-shared-slice-read-date-of
-shared-slice-read-date-of c = omega (arith, code-length _ _ _ (c .before .before .before .before .is-imm-code .ensures) (c .before .before .before .if2 .taken))
+shared-slice-read-date-of c =
+    let then2 : tie.Then2 = search in
+    let is-imm-code : tie.After-is-imm-code = search in
+    omega (arith, code-length _ _ _ (is-imm-code .is-imm-code .ensures) (then2 .if2 .taken))
 
 sub-date-of : tie.Need-sub-date-of
-sub-date-of c = code-digit _ _ _ (c .before .before .before .before .is-imm-code .ensures) (c .before .before .before .if2 .taken) .0
+sub-date-of c =
+    let then2 : tie.Then2 = search in
+    let is-imm-code : tie.After-is-imm-code = search in
+    code-digit _ _ _ (is-imm-code .is-imm-code .ensures) (then2 .if2 .taken) .0
 
 cast-date-of : tie.Need-cast-date-of
-cast-date-of c = record { fits = omega (arith, code-digit _ _ _ (c .before .before .before .before .is-imm-code .ensures) (c .before .before .before .if2 .taken) .1) }
+cast-date-of c =
+    let then2 : tie.Then2 = search in
+    let is-imm-code : tie.After-is-imm-code = search in
+    record { fits = omega (arith, code-digit _ _ _ (is-imm-code .is-imm-code .ensures) (then2 .if2 .taken) .1) }
 
 date-of-requires : tie.Need-date-of-requires
-date-of-requires c κs = omega (arith, code-digit _ _ _ (c .before .before .before .before .is-imm-code .ensures) (c .before .before .before .if2 .taken) .1)
+date-of-requires c κs =
+    let then2 : tie.Then2 = search in
+    let is-imm-code : tie.After-is-imm-code = search in
+    omega (arith, code-digit _ _ _ (is-imm-code .is-imm-code .ensures) (then2 .if2 .taken) .1)
 
 returns : tie.Need-returns
 unfolding dateIn codeMonth codeDigit
 returns c =
-    passed _ _ _ _ _ (c .before .before .before .before .before .before .before .in-book .ensures) (c .before .before .before .before .before .before .if1 .taken)
-    (passed _ _ _ _ _ (c .before .before .before .before .before .is-imm-code .ensures) (c .before .before .before .before .if2 .taken) (cc))
+    let then2 : tie.Then2 = search in
+    let is-imm-code : tie.After-is-imm-code = search in
+    let then1 : tie.Then1 = search in
+    let in-book : tie.After-in-book = search in
+    passed _ _ _ _ _ (in-book .in-book .ensures) (then1 .if1 .taken)
+    (passed _ _ _ _ _ (is-imm-code .is-imm-code .ensures) (then2 .if2 .taken) (cc))
 
 returns-2 : tie.Need-returns-2
 unfolding dated dateIn

@@ -19,16 +19,20 @@ returns c =
 
 returns-2 : tie.Need-returns-2
 returns-2 c =
-    let b = c .before .before .before .before .before in
-    imm-late _ _ _ (b .before .weekday-of .ensures) (b .if1 .taken) _ (c .before .before .before .before .fields-of .ensures) (omega arith) (omega arith)
+    let fields-of : tie.After-fields-of = search in
+    let wednesday : tie.Then1 = search in
+    let weekday : tie.After-weekday-of = search in
+    imm-late _ _ _ (weekday .weekday-of .ensures) (wednesday .if1 .taken) _ (fields-of .fields-of .ensures) (omega arith) (omega arith)
 
 in-cycle-requires : tie.Need-in-cycle-requires
 in-cycle-requires c κs = search needs
 
 returns-3 : tie.Need-returns-3
 returns-3 c =
-    let b = c .before .before .before .before .before .before in
-    imm-in _ _ _ (b .before .weekday-of .ensures) (b .if1 .taken) _ (c .before .before .before .before .before .fields-of .ensures) _ (omega arith) (omega arith) (c .in-cycle .ensures)
+    let fields-of : tie.After-fields-of = search in
+    let wednesday : tie.Then1 = search in
+    let weekday : tie.After-weekday-of = search in
+    imm-in _ _ _ (weekday .weekday-of .ensures) (wednesday .if1 .taken) _ (fields-of .fields-of .ensures) _ (omega arith) (omega arith) (c .in-cycle .ensures)
 
 returns-4 : tie.Need-returns-4
 returns-4 c = imm-weekday _ _ _ (c .before .weekday-of .ensures) (c .if1 .left)

@@ -23,9 +23,10 @@ enum-known-named-2 c = search needs
 returns : tie.Need-returns
 unfolding nextWithCode
 returns c =
-    let named = c .before .before .before .before .date in
-    let day = c .before .before .named .given .0 .0 in
-    then-given _ (day .day) _ _ (given-day (named .result) day _ (named .ensures) (cc)) (c .next-after .ensures)
+    let at-named : tie.After-named = search in
+    let named : tie.After-date = search in
+    let day = at-named .named .given .0 .0 in
+    then-given _ (day .day) _ _ (given-day (named .date .result) day _ (named .date .ensures) (cc)) (c .next-after .ensures)
 
 returns-2 : tie.Need-returns-2
 unfolding dated nextWithCode

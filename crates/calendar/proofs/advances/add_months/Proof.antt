@@ -27,9 +27,10 @@ enum-known-moved-2 c = search needs
 returns : tie.Need-returns
 unfolding addMonths
 returns c =
-    let moved = c .before .before .before .before .before .shift-by in
-    let to = c .before .before .before .moved .given .0 .0 in
-    λ ok. then-given _ (to .day) _ _ (given-day (moved .result) to _ (moved .ensures) (cc))
+    let at-moved : tie.After-moved = search in
+    let moved : tie.After-shift-by = search in
+    let to = at-moved .moved .given .0 .0 in
+    λ ok. then-given _ (to .day) _ _ (given-day (moved .shift-by .result) to _ (moved .shift-by .ensures) (cc))
     (then-same _ _ _ _ (c .land .ensures ok) (c .before .end-asked .ensures ok))
 
 returns-2 : tie.Need-returns-2

@@ -23,9 +23,10 @@ enum-known-moved-2 c = search needs
 returns : tie.Need-returns
 unfolding addWeeks
 returns c =
-    let moved = c .before .before .before .before .shift-by in
-    let to = c .before .before .moved .given .0 .0 in
-    λ ok. then-given _ (to .day) _ _ (given-day (moved .result) to _ (moved .ensures) (cc)) (c .searched .ensures ok)
+    let at-moved : tie.After-moved = search in
+    let moved : tie.After-shift-by = search in
+    let to = at-moved .moved .given .0 .0 in
+    λ ok. then-given _ (to .day) _ _ (given-day (moved .shift-by .result) to _ (moved .shift-by .ensures) (cc)) (c .searched .ensures ok)
 
 returns-2 : tie.Need-returns-2
 unfolding dated addWeeks

@@ -41,26 +41,34 @@ add-months-requires-2 c κs = search needs
 returns-2 : tie.Need-returns-2
 unfolding advanced byUnit
 returns-2 c =
+    let else1 : tie.Else1 = search in
+    let in-span : tie.After-in-span = search in
     λ ok. rw (c .before .enum-told .given .1)
-    (cleared _ _ _ _ _ (c .before .before .before .before .in-span .ensures) (c .before .before .before .if1 .left) (c .step-open .ensures ok))
+    (cleared _ _ _ _ _ (in-span .in-span .ensures) (else1 .if1 .left) (c .step-open .ensures ok))
 
 returns-3 : tie.Need-returns-3
 unfolding advanced byUnit
 returns-3 c =
+    let else1 : tie.Else1 = search in
+    let in-span : tie.After-in-span = search in
     λ ok. rw (c .before .enum-told2 .given .1)
-    (cleared _ _ _ _ _ (c .before .before .before .before .in-span .ensures) (c .before .before .before .if1 .left) (c .add-weeks .ensures ok))
+    (cleared _ _ _ _ _ (in-span .in-span .ensures) (else1 .if1 .left) (c .add-weeks .ensures ok))
 
 returns-4 : tie.Need-returns-4
 unfolding advanced byUnit
 returns-4 c =
+    let else1 : tie.Else1 = search in
+    let in-span : tie.After-in-span = search in
     λ ok. rw (c .before .enum-told3 .given .1)
-    (cleared _ _ _ _ _ (c .before .before .before .before .in-span .ensures) (c .before .before .before .if1 .left) (c .add-months .ensures ok))
+    (cleared _ _ _ _ _ (in-span .in-span .ensures) (else1 .if1 .left) (c .add-months .ensures ok))
 
 returns-5 : tie.Need-returns-5
 unfolding advanced byUnit
 returns-5 c =
+    let else1 : tie.Else1 = search in
+    let in-span : tie.After-in-span = search in
     λ ok. rw (c .before .enum-told4 .given .1)
-    (cleared _ _ _ _ _ (c .before .before .before .before .in-span .ensures) (c .before .before .before .if1 .left) (c .add-months2 .ensures ok))
+    (cleared _ _ _ _ _ (in-span .in-span .ensures) (else1 .if1 .left) (c .add-months2 .ensures ok))
 
 pub advance-spec : {M : Type 1} → statement M
 advance-spec =

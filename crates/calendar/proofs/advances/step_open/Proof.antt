@@ -30,9 +30,9 @@ loop-less c = search needs
 
 loop-again : tie.Need-loop-again Inv-loop μ-loop
 loop-again c =
-    let next = c .before .before .before .neighbour in
-    let loop = c .before .before .before .before .before .loop in
-    steps-next (loop .inv) (omega arith) {next = next .result} (next .ensures) {x = c .before .next .given .0 .0} cc
+    let next : tie.After-neighbour Inv-loop μ-loop = search in
+    let loop : tie.At-loop Inv-loop μ-loop = search in
+    steps-next (loop .loop .inv) (omega arith) {next = next .neighbour .result} (next .neighbour .ensures) {x = c .before .next .given .0 .0} cc
 
 enum-known-next-2 : tie.Need-enum-known-next-2 Inv-loop μ-loop
 enum-known-next-2 c = search needs
@@ -40,9 +40,9 @@ enum-known-next-2 c = search needs
 returns : tie.Need-returns Inv-loop μ-loop
 unfolding dated
 returns c =
-    let next = c .before .before .before .neighbour in
-    let loop = c .before .before .before .before .before .loop in
-    λ ok. steps-refused (loop .inv) (omega arith) {next = next .result} (next .ensures) (c .before .next2 .given .0 .0) (cc) ok
+    let next : tie.After-neighbour Inv-loop μ-loop = search in
+    let loop : tie.At-loop Inv-loop μ-loop = search in
+    λ ok. steps-refused (loop .loop .inv) (omega arith) {next = next .neighbour .result} (next .neighbour .ensures) (c .before .next2 .given .0 .0) (cc) ok
 
 returns-2 : tie.Need-returns-2 Inv-loop μ-loop
 unfolding dated

@@ -19,8 +19,9 @@ same-month-requires c κs = search needs
 returns : tie.Need-returns
 unfolding dated adjusted byConvention
 returns c =
-    let first = c .before .before .before .before .before .following-from in
-    λ ok. modified-kept _ _ _ (first .result) (first .ensures ok) (c .before .before .before .first .given .0 .0) _ (cc) (c .before .same-month .ensures) (c .if1 .taken)
+    let at-first : tie.After-first = search in
+    let first : tie.After-following-from = search in
+    λ ok. modified-kept _ _ _ (first .following-from .result) (first .following-from .ensures ok) (at-first .first .given .0 .0) _ (cc) (c .before .same-month .ensures) (c .if1 .taken)
 
 preceding-from-requires : tie.Need-preceding-from-requires
 preceding-from-requires c κs = search needs
@@ -31,8 +32,10 @@ enum-known-first-2 c = search needs
 returns-2 : tie.Need-returns-2
 unfolding adjusted byConvention
 returns-2 c =
-    let first = c .before .before .before .before .before .before .following-from in
-    λ ok. modified-left _ _ _ (first .result) (first .ensures ok) (c .before .before .before .before .first .given .0 .0) _ _ (cc) (c .before .before .same-month .ensures) (c .before .if1 .left) (c .preceding-from .ensures ok)
+    let same-month : tie.After-same-month = search in
+    let at-first : tie.After-first = search in
+    let first : tie.After-following-from = search in
+    λ ok. modified-left _ _ _ (first .following-from .result) (first .following-from .ensures ok) (at-first .first .given .0 .0) _ _ (cc) (same-month .same-month .ensures) (c .before .if1 .left) (c .preceding-from .ensures ok)
 
 returns-3 : tie.Need-returns-3
 unfolding dated adjusted byConvention

@@ -19,8 +19,9 @@ same-month-requires c κs = search needs
 returns : tie.Need-returns
 unfolding dated adjusted byConvention
 returns c =
-    let first = c .before .before .before .before .before .preceding-from in
-    λ ok. modified-kept _ _ _ (first .result) (first .ensures ok) (c .before .before .before .first .given .0 .0) _ (cc) (c .before .same-month .ensures) (c .if1 .taken)
+    let at-first : tie.After-first = search in
+    let first : tie.After-preceding-from = search in
+    λ ok. modified-kept _ _ _ (first .preceding-from .result) (first .preceding-from .ensures ok) (at-first .first .given .0 .0) _ (cc) (c .before .same-month .ensures) (c .if1 .taken)
 
 following-from-requires : tie.Need-following-from-requires
 following-from-requires c κs = search needs
@@ -31,8 +32,10 @@ enum-known-first-2 c = search needs
 returns-2 : tie.Need-returns-2
 unfolding adjusted byConvention
 returns-2 c =
-    let first = c .before .before .before .before .before .before .preceding-from in
-    λ ok. modified-left _ _ _ (first .result) (first .ensures ok) (c .before .before .before .before .first .given .0 .0) _ _ (cc) (c .before .before .same-month .ensures) (c .before .if1 .left) (c .following-from .ensures ok)
+    let same-month : tie.After-same-month = search in
+    let at-first : tie.After-first = search in
+    let first : tie.After-preceding-from = search in
+    λ ok. modified-left _ _ _ (first .preceding-from .result) (first .preceding-from .ensures ok) (at-first .first .given .0 .0) _ _ (cc) (same-month .same-month .ensures) (c .before .if1 .left) (c .following-from .ensures ok)
 
 returns-3 : tie.Need-returns-3
 unfolding dated adjusted byConvention

@@ -34,13 +34,14 @@ same-month-requires c κs = search needs
 returns-2 : tie.Need-returns-2
 unfolding decided atMonthEnd towards step
 returns-2 c =
-    let next = c .before .before .before .before .before .neighbour in
-    let day = c .before .before .before .next .given .0 .0 in
-    let span = c .before .before .before .before .before .before .before .in-span in
-    let in-it = c .before .before .before .before .before .before .if1 in
-    λ ok. let found = given-day (next .result) day _ (next .ensures ok) (cc) in
-    let same = c .before .same-month .ensures (span-one _ (sym (span .ensures) ∙ not-false _ (in-it .left))) (following-one _ _ (day .day) found) in
-    cleared _ _ _ _ _ (span .ensures) (in-it .left)
+    let at-next : tie.After-next = search in
+    let next : tie.After-neighbour = search in
+    let in-it : tie.Else1 = search in
+    let span : tie.After-in-span = search in
+    let day = at-next .next .given .0 .0 in
+    λ ok. let found = given-day (next .neighbour .result) day _ (next .neighbour .ensures ok) (cc) in
+    let same = c .before .same-month .ensures (span-one _ (sym (span .in-span .ensures) ∙ not-false _ (in-it .if1 .left))) (following-one _ _ (day .day) found) in
+    cleared _ _ _ _ _ (span .in-span .ensures) (in-it .if1 .left)
     (then-given _ (day .day) _ _ found (ap (λ (b : Bool). given (not b)) (sym (c .if2 .taken) ∙ same)))
 
 enum-known-next-2 : tie.Need-enum-known-next-2
@@ -49,24 +50,25 @@ enum-known-next-2 c = search needs
 returns-3 : tie.Need-returns-3
 unfolding decided atMonthEnd towards step
 returns-3 c =
-    let next = c .before .before .before .before .before .neighbour in
-    let day = c .before .before .before .next .given .0 .0 in
-    let span = c .before .before .before .before .before .before .before .in-span in
-    let in-it = c .before .before .before .before .before .before .if1 in
-    λ ok. let found = given-day (next .result) day _ (next .ensures ok) (cc) in
-    let same = c .before .same-month .ensures (span-one _ (sym (span .ensures) ∙ not-false _ (in-it .left))) (following-one _ _ (day .day) found) in
-    cleared _ _ _ _ _ (span .ensures) (in-it .left)
+    let at-next : tie.After-next = search in
+    let next : tie.After-neighbour = search in
+    let in-it : tie.Else1 = search in
+    let span : tie.After-in-span = search in
+    let day = at-next .next .given .0 .0 in
+    λ ok. let found = given-day (next .neighbour .result) day _ (next .neighbour .ensures ok) (cc) in
+    let same = c .before .same-month .ensures (span-one _ (sym (span .in-span .ensures) ∙ not-false _ (in-it .if1 .left))) (following-one _ _ (day .day) found) in
+    cleared _ _ _ _ _ (span .in-span .ensures) (in-it .if1 .left)
     (then-given _ (day .day) _ _ found (ap (λ (b : Bool). given (not b)) (sym (c .if2 .left) ∙ same)))
 
 returns-4 : tie.Need-returns-4
 unfolding decided atMonthEnd towards step
 returns-4 c =
-    let next = c .before .before .before .neighbour in
+    let next : tie.After-neighbour = search in
+    let in-it : tie.Else1 = search in
+    let span : tie.After-in-span = search in
     let number = c .before .next2 .given .0 .0 in
-    let span = c .before .before .before .before .before .in-span in
-    let in-it = c .before .before .before .before .if1 in
-    λ ok. cleared _ _ _ _ _ (span .ensures) (in-it .left)
-    (then-refused _ number _ (refused-day (next .result) number _ (next .ensures ok) (cc)))
+    λ ok. cleared _ _ _ _ _ (span .in-span .ensures) (in-it .if1 .left)
+    (then-refused _ number _ (refused-day (next .neighbour .result) number _ (next .neighbour .ensures ok) (cc)))
 
 pub at-month-end-spec : {M : Type 1} → statement M
 at-month-end-spec =

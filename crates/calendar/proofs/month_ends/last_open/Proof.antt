@@ -23,9 +23,10 @@ enum-known-last-2 c = search needs
 returns : tie.Need-returns
 unfolding lastOpen towards
 returns c =
-    let last = c .before .before .before .before .last-of-month in
-    let end = c .before .before .last .given .0 .0 in
-    λ ok. then-given _ (end .day) _ _ (given-day (last .result) end _ (last .ensures) (cc)) (c .toward .ensures ok)
+    let at-last : tie.After-last = search in
+    let last : tie.After-last-of-month = search in
+    let end = at-last .last .given .0 .0 in
+    λ ok. then-given _ (end .day) _ _ (given-day (last .last-of-month .result) end _ (last .last-of-month .ensures) (cc)) (c .toward .ensures ok)
 
 returns-2 : tie.Need-returns-2
 unfolding dated lastOpen

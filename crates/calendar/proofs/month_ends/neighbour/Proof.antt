@@ -21,8 +21,9 @@ enum-known-beside-2 c = search needs
 returns : tie.Need-returns
 unfolding shifted shiftDays
 returns c =
-    let beside = c .before .before .before .before .shift-by in
-    λ ok. beside-day _ _ _ _ (beside .result) (beside .ensures) (c .before .before .beside .given .0 .0) _ (cc) (c .toward .ensures ok)
+    let at-beside : tie.After-beside = search in
+    let beside : tie.After-shift-by = search in
+    λ ok. beside-day _ _ _ _ (beside .shift-by .result) (beside .shift-by .ensures) (at-beside .beside .given .0 .0) _ (cc) (c .toward .ensures ok)
 
 returns-2 : tie.Need-returns-2
 unfolding dated shifted shiftDays

@@ -19,18 +19,18 @@ is-known-requires c κs = search needs
 
 returns : tie.Need-returns
 returns c =
-    let f = c .before .before .before in
-    let first = f .before .before .following-from in
-    λ ok m. follow-known _ _ _ (first .result) (first .ensures ok) (f .first2 .given .0 .0) (f .first2 .given .1) _ m _ (c .before .is-known .ensures) (c .if1 .taken)
+    let f : tie.After-first2 = search in
+    let first : tie.After-following-from = search in
+    λ ok m. follow-known _ _ _ (first .following-from .result) (first .following-from .ensures ok) (f .first2 .given .0 .0) (f .first2 .given .1) _ m _ (c .before .is-known .ensures) (c .if1 .taken)
 
 month-start-requires : tie.Need-month-start-requires
 month-start-requires c κs = search needs
 
 returns-2 : tie.Need-returns-2
 returns-2 c =
-    let f = c .before .before .before .before .before in
-    let first = f .before .before .following-from in
-    λ ok m. follow-split _ _ _ (first .result) (first .ensures ok) (f .first2 .given .0 .0) (f .first2 .given .1) _ (c .before .month-start .ensures) _ (c .if2 .taken)
+    let f : tie.After-first2 = search in
+    let first : tie.After-following-from = search in
+    λ ok m. follow-split _ _ _ (first .following-from .result) (first .following-from .ensures ok) (f .first2 .given .0 .0) (f .first2 .given .1) _ (c .before .month-start .ensures) _ (c .if2 .taken)
 
 preceding-from-requires : tie.Need-preceding-from-requires
 preceding-from-requires c κs = search needs
@@ -45,10 +45,10 @@ returns-3 c =
 
 returns-4 : tie.Need-returns-4
 returns-4 c =
-    let s = c .before .before .before in
-    let f = s .before .before .before .before in
-    let first = f .before .before .following-from in
-    λ ok m. follow-left _ _ _ (first .result) (first .ensures ok) (f .first2 .given .0 .0) (f .first2 .given .1) _ (s .month-start .ensures) _ _ m (c .before .before .if2 .left) _ (c .before .preceding-from .ensures ok) _ (c .with-near .ensures)
+    let s : tie.After-month-start = search in
+    let f : tie.After-first2 = search in
+    let first : tie.After-following-from = search in
+    λ ok m. follow-left _ _ _ (first .following-from .result) (first .following-from .ensures ok) (f .first2 .given .0 .0) (f .first2 .given .1) _ (s .month-start .ensures) _ _ m (c .before .before .if2 .left) _ (c .before .preceding-from .ensures ok) _ (c .with-near .ensures)
 
 pub follow-near-spec : {M : Type 1} → statement M
 follow-near-spec =

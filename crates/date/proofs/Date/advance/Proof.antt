@@ -1,20 +1,19 @@
 -- `date::Date::advance` meets its contract.
 -- Assumes nothing.
+use borrow.Author.Tests.{not-true, not-false}
 use Rattle.refusal.specs.Laws.Answers.{passed, failed}
 use Rattle.period.specs.Laws.Signed.{same32}
 use Rattle.date.specs.Date.{dated, advanceOf}
 use borrow.Author.Needs.{needs}
 use Rattle.date.proofs.Date.advance.Statement.{statement}
 use Rattle.date.proofs.Date.advance.Tie as tie
-use Rattle.date.proofs.Date.advance.Reads as reads
-use Rattle.date.proofs.Date.advance.Lts as lts
-use Rattle.date.proofs.in_book.Reads as in-book-reads
-use Rattle.date.proofs.span.shift_by.Reads as shift-by-reads
-use Rattle.period.proofs.sign.is_negative.Reads as is-negative-reads
-use Rattle.period.proofs.sign.size.Reads as size-reads
 
 in-book-requires : tie.Need-in-book-requires
 in-book-requires c κs = search needs
+
+returns : tie.Need-returns
+unfolding dated advanceOf
+returns c = failed _ _ _ _ (c .before .in-book .ensures) (not-true _ (c .if1 .taken))
 
 is-negative-requires : tie.Need-is-negative-requires
 is-negative-requires c κs = search needs
@@ -25,23 +24,13 @@ size-requires c κs = search needs
 shift-by-requires : tie.Need-shift-by-requires
 shift-by-requires c κs = search needs
 
-returns : tie.Need-returns
-unfolding advanceOf
-returns c =
-    let b = c .before .before .before .before .before in
-    passed _ _ _ _ _ (c .before .before .before .before .in-book .ensures) (c .before .before .before .if1 .taken) (cc (same32 _ (b .fits .n)))
-
 returns-2 : tie.Need-returns-2
-unfolding dated advanceOf
-returns-2 c = failed _ _ _ _ (c .before .in-book .ensures) (c .if1 .left)
+unfolding advanceOf
+returns-2 c =
+    let inside : tie.Else1 = search in
+    let in-book : tie.After-in-book = search in
+    let start : tie.Start = search in
+    passed _ _ _ _ _ (in-book .in-book .ensures) (not-false _ (inside .if1 .left)) (cc (same32 _ (start .fits .n)))
 
 pub advance-spec : {M : Type 1} → statement M
-advance-spec =
-    tie.close
-    (tie.spec
-    in-book-requires
-    is-negative-requires
-    size-requires
-    shift-by-requires
-    returns
-    returns-2)
+advance-spec = tie.close (tie.spec in-book-requires returns is-negative-requires size-requires shift-by-requires returns-2)

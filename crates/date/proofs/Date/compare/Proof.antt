@@ -20,15 +20,29 @@ in-book-requires-2 c κs = search needs
 
 returns : tie.Need-returns
 unfolding compared compareOf orderOf
-returns c = passed _ _ _ _ _ (c .before .before .before .before .in-book .ensures) (c .before .before .before .if1 .taken) (passed _ _ _ _ _ (c .before .before .in-book2 .ensures) (c .before .if2 .taken) (simp (lt-ltb _ _ (c .if3 .taken))))
+returns c =
+    let in-book2 : tie.After-in-book2 = search in
+    let then1 : tie.Then1 = search in
+    let in-book : tie.After-in-book = search in
+    passed _ _ _ _ _ (in-book .in-book .ensures) (then1 .if1 .taken) (passed _ _ _ _ _ (in-book2 .in-book2 .ensures) (c .before .if2 .taken) (simp (lt-ltb _ _ (c .if3 .taken))))
 
 returns-2 : tie.Need-returns-2
 unfolding compared compareOf orderOf
-returns-2 c = passed _ _ _ _ _ (c .before .before .before .before .before .in-book .ensures) (c .before .before .before .before .if1 .taken) (passed _ _ _ _ _ (c .before .before .before .in-book2 .ensures) (c .before .before .if2 .taken) (simp (le-ltb _ _ (c .before .if3 .left), eq-eqb _ _ (c .if4 .taken))))
+returns-2 c =
+    let then2 : tie.Then2 = search in
+    let in-book2 : tie.After-in-book2 = search in
+    let then1 : tie.Then1 = search in
+    let in-book : tie.After-in-book = search in
+    passed _ _ _ _ _ (in-book .in-book .ensures) (then1 .if1 .taken) (passed _ _ _ _ _ (in-book2 .in-book2 .ensures) (then2 .if2 .taken) (simp (le-ltb _ _ (c .before .if3 .left), eq-eqb _ _ (c .if4 .taken))))
 
 returns-3 : tie.Need-returns-3
 unfolding compared compareOf orderOf
-returns-3 c = passed _ _ _ _ _ (c .before .before .before .before .before .in-book .ensures) (c .before .before .before .before .if1 .taken) (passed _ _ _ _ _ (c .before .before .before .in-book2 .ensures) (c .before .before .if2 .taken) (simp (le-ltb _ _ (c .before .if3 .left), ne-eqb _ _ (c .if4 .left))))
+returns-3 c =
+    let then2 : tie.Then2 = search in
+    let in-book2 : tie.After-in-book2 = search in
+    let then1 : tie.Then1 = search in
+    let in-book : tie.After-in-book = search in
+    passed _ _ _ _ _ (in-book .in-book .ensures) (then1 .if1 .taken) (passed _ _ _ _ _ (in-book2 .in-book2 .ensures) (then2 .if2 .taken) (simp (le-ltb _ _ (c .before .if3 .left), ne-eqb _ _ (c .if4 .left))))
 
 returns-4 : tie.Need-returns-4
 unfolding compared compareOf

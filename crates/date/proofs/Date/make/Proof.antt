@@ -41,7 +41,9 @@ unfolding dated
 returns-6 c = make-day-over _ _ _ (omega (arith, c .before .month-length .ensures))
 
 day-number-requires : tie.Need-day-number-requires
-day-number-requires c κs = (search needs, search needs, search needs, search needs, omega (arith, c .before .month-length .ensures, length-le (c .before .before .before .before .before .before .before .args .year) (c .before .before .before .before .before .before .before .args .month)))
+day-number-requires c κs =
+    let start : tie.Start = search in
+    (search needs, search needs, search needs, search needs, omega (arith, c .before .month-length .ensures, length-le (start .args .year) (start .args .month)))
 
 returns-7 : tie.Need-returns-7
 unfolding dated

@@ -41,9 +41,13 @@ within-requires c κs = search needs
 returns-3 : tie.Need-returns-3
 unfolding nextWeekdayOf
 returns-3 c =
-    holds _ _ _ _ (le-leb _ _ (c .before .before .before .before .before .if1 .left))
-    (holds _ _ _ _ (le-leb _ _ (c .before .before .before .before .if2 .left))
-    (passed _ _ _ _ _ (c .before .before .before .in-book .ensures) (c .before .before .if3 .taken) (cc)))
+    let then3 : tie.Then3 = search in
+    let in-book : tie.After-in-book = search in
+    let else2 : tie.Else2 = search in
+    let else1 : tie.Else1 = search in
+    holds _ _ _ _ (le-leb _ _ (else1 .if1 .left))
+    (holds _ _ _ _ (le-leb _ _ (else2 .if2 .left))
+    (passed _ _ _ _ _ (in-book .in-book .ensures) (then3 .if3 .taken) (cc)))
 
 returns-4 : tie.Need-returns-4
 unfolding dated nextWeekdayOf

@@ -55,11 +55,13 @@ month-length-requires c κs = search needs
 returns-5 : tie.Need-returns-5
 unfolding dated
 returns-5 c =
-    let first = c .before .before .before .before .before .before .make in
-    let day = c .before .before .before .before .first .given .0 .0 in
+    let days-until : tie.After-days-until = search in
+    let at-first : tie.After-first = search in
+    let first : tie.After-make = search in
+    let day = at-first .first .given .0 .0 in
     nth-over _ _ _ _ _ _ (omega arith) (omega arith) (omega arith) (omega arith)
-    (given-day (first .result) day _ (first .ensures) (cc))
-    (c .before .before .days-until .ensures)
+    (given-day (first .make .result) day _ (first .make .ensures) (cc))
+    (days-until .days-until .ensures)
     (omega (arith, c .before .month-length .ensures))
 
 cast-within : tie.Need-cast-within
@@ -79,13 +81,16 @@ enum-known-first-2 c = search needs
 
 returns-6 : tie.Need-returns-6
 returns-6 c =
-    let first = c .before .before .before .before .before .before .before .before .make in
-    let day = c .before .before .before .before .before .before .first .given .0 .0 in
+    let month-length : tie.After-month-length = search in
+    let days-until : tie.After-days-until = search in
+    let at-first : tie.After-first = search in
+    let first : tie.After-make = search in
+    let day = at-first .first .given .0 .0 in
     c .within .ensures
     ∙ nth-within _ _ _ _ _ _ (omega arith) (omega arith) (omega arith) (omega arith)
-    (given-day (first .result) day _ (first .ensures) (cc))
-    (c .before .before .before .before .days-until .ensures)
-    (omega (arith, c .before .before .before .month-length .ensures))
+    (given-day (first .make .result) day _ (first .make .ensures) (cc))
+    (days-until .days-until .ensures)
+    (omega (arith, month-length .month-length .ensures))
 
 returns-7 : tie.Need-returns-7
 unfolding dated

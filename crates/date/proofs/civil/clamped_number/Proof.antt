@@ -60,13 +60,15 @@ least-requires c κs = search needs
 
 add-result : tie.Need-add-result
 add-result c =
-    let args = c .before .before .before .before .before .args in
-    let leaps = c .before .before .before .before .is-leap .result in
-    let years = gone-small (args .year - 1) (omega arith) in
-    let months = sum-small leaps (args .month - 1) (omega arith) in
-    let days = row-le leaps (args .month - 1) in
-    let before = c .before .before in
-    record { fits = omega (arith, before .before .days-gone .ensures, before .days-before .ensures, c .least .ensures, c .before .length-at .ensures) }
+    let months-gone : tie.After-days-before = search in
+    let gone : tie.After-days-gone = search in
+    let is-leap : tie.After-is-leap = search in
+    let start : tie.Start = search in
+    let leaps = is-leap .is-leap .result in
+    let years = gone-small (start .args .year - 1) (omega arith) in
+    let months = sum-small leaps (start .args .month - 1) (omega arith) in
+    let days = row-le leaps (start .args .month - 1) in
+    record { fits = omega (arith, gone .days-gone .ensures, months-gone .days-before .ensures, c .least .ensures, c .before .length-at .ensures) }
 
 returns : tie.Need-returns
 unfolding dayNumber monthLength

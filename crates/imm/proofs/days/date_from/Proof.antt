@@ -16,8 +16,9 @@ enum-known-first c = search needs
 returns : tie.Need-returns
 unfolding dated
 returns c =
-    let first = c .before .before .before .before .before .third-wednesday in
-    date-first _ _ _ (first .result) (first .ensures) (c .before .before .before .first .given .0 .0) (cc) (omega arith)
+    let at-first : tie.After-first = search in
+    let first : tie.After-third-wednesday = search in
+    date-first _ _ _ (first .third-wednesday .result) (first .third-wednesday .ensures) (at-first .first .given .0 .0) (cc) (omega arith)
 
 add-third-wednesday : tie.Need-add-third-wednesday
 add-third-wednesday c = search needs
@@ -30,8 +31,9 @@ enum-known-first-2 c = search needs
 
 returns-2 : tie.Need-returns-2
 returns-2 c =
-    let first = c .before .before .before .before .before .before .third-wednesday in
-    date-decade _ _ _ (first .result) (first .ensures) (c .before .before .before .before .first .given .0 .0) _ (cc) (omega arith) (c .third-wednesday2 .ensures)
+    let at-first : tie.After-first = search in
+    let first : tie.After-third-wednesday = search in
+    date-decade _ _ _ (first .third-wednesday .result) (first .third-wednesday .ensures) (at-first .first .given .0 .0) _ (cc) (omega arith) (c .third-wednesday2 .ensures)
 
 returns-3 : tie.Need-returns-3
 unfolding dated

@@ -16,8 +16,9 @@ enum-known-coming c = search needs
 returns : tie.Need-returns
 unfolding dated
 returns c =
-    let first = c .before .before .before .before .before .third-of in
-    next-coming _ _ _ (first .result) (first .ensures) (c .before .before .before .coming .given .0 .0) (cc) (omega arith)
+    let coming : tie.After-coming = search in
+    let first : tie.After-third-of = search in
+    next-coming _ _ _ (first .third-of .result) (first .third-of .ensures) (coming .coming .given .0 .0) (cc) (omega arith)
 
 stride-of-requires : tie.Need-stride-of-requires
 stride-of-requires c κs = search needs
@@ -33,9 +34,10 @@ enum-known-coming-2 c = search needs
 
 returns-2 : tie.Need-returns-2
 returns-2 c =
-    let first = c .before .before .before .before .before .before .before .third-of in
-    let day = c .before .before .before .before .before .coming .given .0 .0 in
-    next-after _ _ _ (first .result) (first .ensures) day _ _ (cc) (omega arith) (c .before .stride-of .ensures .0) (c .third-of2 .ensures)
+    let coming : tie.After-coming = search in
+    let first : tie.After-third-of = search in
+    let day = coming .coming .given .0 .0 in
+    next-after _ _ _ (first .third-of .result) (first .third-of .ensures) day _ _ (cc) (omega arith) (c .before .stride-of .ensures .0) (c .third-of2 .ensures)
 
 returns-3 : tie.Need-returns-3
 unfolding dated

@@ -31,9 +31,10 @@ enum-known-twentieth-2 c = search needs
 returns : tie.Need-returns
 unfolding nextTwentieth
 returns c =
-    let first = c .before .before .before .before .before .before .twentieth-of in
-    let day = c .before .before .before .before .twentieth .given .0 .0 in
-    then-given _ (day .day) _ _ (given-day (first .result) day _ (first .ensures) (c .before .before .before .before .twentieth .given .1)) (cc)
+    let at-twentieth : tie.After-twentieth = search in
+    let first : tie.After-twentieth-of = search in
+    let day = at-twentieth .twentieth .given .0 .0 in
+    then-given _ (day .day) _ _ (given-day (first .twentieth-of .result) day _ (first .twentieth-of .ensures) (at-twentieth .twentieth .given .1)) (cc)
 
 returns-2 : tie.Need-returns-2
 unfolding dated nextTwentieth
