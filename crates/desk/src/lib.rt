@@ -4,7 +4,7 @@ ghost use mathlib.Core.Bool.{true};
 ghost use Rattle.date.specs.Date.{dated, numbered};
 ghost use Rattle.calendar.specs.Open.{closedOk};
 ghost use Rattle.calendar.specs.Calendar.{checked};
-ghost use Rattle.desk.specs.Desk.{inYears, askedOf, lookupOf, calendarsOk, adjustOverOf};
+ghost use Rattle.desk.specs.Desk.{inYears, askedOf, lookupOf, calendarsOk, adjustOverOf, Combines};
 ghost use Rattle.desk.specs.Runs.{Tells, PlaceTold};
 use calendar::Checked;
 use calendar::Convention;
@@ -19,6 +19,8 @@ mod runs;
 mod years;
 // The search over both lists, and the conventions.
 mod adjusting;
+// The two lists as one.
+mod merging;
 // Where a run stands: in no list (0), the desk's (1) or the house's (2), from which place, and how many entries.
 pub struct Found {
     pub list: u8,
@@ -129,4 +131,26 @@ pub fn adjust<'a>(
         return Dated::Refused(refusal::CALENDAR);
     }
     adjusting::by_convention(day, convention, mask, desk, house)
+}
+
+// The combined list over the start of a lent list, and how many entries it has: 3 for either list, 23 where it has more than 4,096 entries, 14
+// where the lent list is shorter. A refusal leaves the lent list as it was.
+pub fn combine(desk: &[u32], house: &[u32], out: &mut [u32]) -> Numbered
+    ensures { λ r. ⌜ Combines (now (desk .entry)) (now (house .entry)) (numbered r) (now (out .entry)) (now (out .exit)) ⌝ }
+{
+    if !closed_dates::keep_rule(desk) {
+        return Numbered::Refused(refusal::CALENDAR);
+    }
+    if !closed_dates::keep_rule(house) {
+        return Numbered::Refused(refusal::CALENDAR);
+    }
+    let count = merging::count(desk, house);
+    if 4096 < count {
+        return Numbered::Refused(refusal::FULL);
+    }
+    if out.len() < count {
+        return Numbered::Refused(refusal::ROOM);
+    }
+    merging::write(desk, house, out);
+    Numbered::Number(count as u32)
 }
