@@ -12,15 +12,19 @@ use lib.ListN.{length, getD, take, drop, set, length-set, length-append, length-
 use lib.Seq.{paste, length-paste, paste-zero, paste-suc, take-all, take-at, drop-append-add, drop-drop, getD-take, getD-drop, take-length, length-take-le}
 use borrow.Author.Needs.{needs}
 use borrow.Author.Tests.{leb-true, leb-false, le-leb, lt-leb, not-true, not-false}
+use Rattle.refusal.specs.Laws.Answers.{both, need-given}
 use Rattle.refusal.specs.Answer.{Answer, given, refused, need, CALENDAR, ROOM, FULL}
 use Rattle.date.specs.declared.Fields.{Fields}
 use Rattle.date.specs.Civil.{dayNumber, fieldsOf}
 use Rattle.date.specs.Date.{SPAN-FIRST, SPAN-LAST}
 use Rattle.calendar.specs.Open.{ascending, closedOk}
+use Rattle.calendar.specs.declared.Checked.{Checked}
+use Rattle.calendar.specs.declared.Checked.the-variants as checked-is
+use Rattle.calendar.specs.Calendar.{sound, checked}
 use Rattle.calendar.specs.Laws.Kept.{ok-at, checked-keeps}
 use Rattle.calendar.specs.Inner.Places.{LowerBound}
 use Rattle.desk.specs.Desk.{yearOf, entriesIn, inYears, hasNone, combined, combineOf, lentAfter, Combines}
-use Rattle.desk.specs.Runs.{Turns}
+use Rattle.desk.specs.Runs.{Turns, roomFor}
 use Rattle.desk.specs.Laws.Ascending.{asc, lower}
 use Rattle.desk.specs.Laws.Combined.{ok-ascends}
 use Rattle.desk.specs.Laws.Merged.{in-front, passed-over, own-first, has-first, only-house, combined-few}
@@ -344,41 +348,84 @@ module _ {desk house out₀ out : List ℕ} {i j n : ℕ} (c : Laying desk house
             let a = take (length house - j) (drop j house) in
             ap length e ∙ length-paste out n a (length a) last-fits-in (omega arith) ∙ c .size
 
+-- ---- room: a list with no more entries than both needs no counting
+module _ (desk house : List ℕ) (room : ℕ) where
+  pub room-by-both : (t : Bool) → t ≡ (leb (length desk + length house) 4096 && leb (length desk + length house) room) → t ≡ true → given sound ≡ roomFor (length (combined desk house)) room
+  unfolding roomFor need
+  room-by-both t p e =
+      let k = both (leb (length desk + length house) 4096) (leb (length desk + length house) room) (sym p ∙ e) in
+      let few = combined-few desk house in
+      let a = leb-true (length desk + length house) 4096 (k .0) in
+      let b = leb-true (length desk + length house) room (k .1) in
+      sym (rw (le-leb (length (combined desk house)) 4096 (omega arith), le-leb (length (combined desk house)) room (omega arith)) refl)
+
+  module _ (n : ℕ) (c : n ≡ length (combined desk house)) where
+    pub room-full : 4096 < n → refused FULL ≡ roomFor (length (combined desk house)) room
+    unfolding roomFor need
+    room-full l = sym (rw (lt-leb (length (combined desk house)) 4096 (omega arith)) refl)
+
+    module _ (few : n ≤ 4096) where
+      fits-few : leb (length (combined desk house)) 4096 ≡ true
+      fits-few = le-leb (length (combined desk house)) 4096 (omega arith)
+
+      pub room-short : room < n → refused ROOM ≡ roomFor (length (combined desk house)) room
+      unfolding roomFor need
+      room-short l = sym (rw (fits-few, lt-leb (length (combined desk house)) room (omega arith)) refl)
+
+      pub room-there : n ≤ room → given sound ≡ roomFor (length (combined desk house)) room
+      unfolding roomFor need
+      room-there l = sym (rw (fits-few, le-leb (length (combined desk house)) room (omega arith)) refl)
+
 -- ---- the combined list in a lent list
-module _ (desk house lent lent′ : List ℕ) where
-  as-refused : (k : ℕ) → combineOf desk house (length lent) ≡ refused k → lent′ ≡ lent → Combines desk house (refused k) lent lent′
+module _ (desk house lent : List ℕ) where
+  as-refused : {lent′ : List ℕ} (k : ℕ) → combineOf desk house (length lent) ≡ refused k → lent′ ≡ lent → Combines desk house (refused k) lent lent′
   unfolding lentAfter
   as-refused k e w = record { says = sym e; writes = rw e w }
 
-  pub no-desk-list : (t : Bool) → t ≡ closedOk desk → not t ≡ true → lent′ ≡ lent → Combines desk house (refused CALENDAR) lent lent′
+  pub no-desk-list : {lent′ : List ℕ} (t : Bool) → t ≡ closedOk desk → not t ≡ true → lent′ ≡ lent → Combines desk house (refused CALENDAR) lent lent′
   unfolding combineOf need
   no-desk-list t p e w = as-refused CALENDAR (rw (sym p ∙ not-true t e) refl) w
 
   module _ (t : Bool) (p : t ≡ closedOk desk) (e : not t ≡ false) where
-    pub no-house-list : (u : Bool) → u ≡ closedOk house → not u ≡ true → lent′ ≡ lent → Combines desk house (refused CALENDAR) lent lent′
+    pub no-house-list : {lent′ : List ℕ} (u : Bool) → u ≡ closedOk house → not u ≡ true → lent′ ≡ lent → Combines desk house (refused CALENDAR) lent lent′
     unfolding combineOf need
     no-house-list u q f w = as-refused CALENDAR (rw (sym p ∙ not-false t e, sym q ∙ not-true u f) refl) w
 
-    module _ (u : Bool) (q : u ≡ closedOk house) (f : not u ≡ false) (n : ℕ) (c : n ≡ length (combined desk house)) where
-      pub too-many : 4096 < n → lent′ ≡ lent → Combines desk house (refused FULL) lent lent′
-      unfolding combineOf need
-      too-many l w =
-          as-refused FULL (rw (sym p ∙ not-false t e, sym q ∙ not-false u f, lt-leb (length (combined desk house)) 4096 (omega arith)) refl) w
+    module _ (u : Bool) (q : u ≡ closedOk house) (f : not u ≡ false) (r : Checked) (h : checked r ≡ roomFor (length (combined desk house)) (length lent)) where
+      pub no-place : {lent′ : List ℕ} (k : ℕ) → r ≡ checked-is.Refused k → lent′ ≡ lent → Combines desk house (refused k) lent lent′
+      unfolding combineOf need checked roomFor
+      no-place k g w =
+          as-refused k (rw (sym p ∙ not-false t e, sym q ∙ not-false u f) (by (leb (length (combined desk house)) 4096) (leb (length (combined desk house)) (length lent)) (sym h ∙ ap checked g))) w
+        where
+          by : (a b : Bool) → need FULL a (need ROOM b (given sound)) ≡ refused k → need FULL a (need ROOM b (given (length (combined desk house)))) ≡ refused k
+          by true true z = let m : _≡_ {A = ℕ} 0 1 = cc in let bad : ⊥ = omega arith in absurd bad
+          by true false z = cc
+          by false b z = cc
 
-      module _ (few : n ≤ 4096) where
-        fits-few : leb (length (combined desk house)) 4096 ≡ true
-        fits-few = le-leb (length (combined desk house)) 4096 (omega arith)
+      module _ (g : r ≡ checked-is.Sound) where
+        room-given : roomFor (length (combined desk house)) (length lent) ≡ given sound
+        unfolding checked
+        room-given = sym h ∙ ap checked g
 
-        pub no-place : length lent < n → lent′ ≡ lent → Combines desk house (refused ROOM) lent lent′
-        unfolding combineOf need
-        no-place l w =
-            as-refused ROOM (rw (sym p ∙ not-false t e, sym q ∙ not-false u f, fits-few, lt-leb (length (combined desk house)) (length lent) (omega arith)) refl) w
+        few-there : leb (length (combined desk house)) 4096 ≡ true
+        unfolding roomFor
+        few-there = need-given FULL _ _ sound room-given .0
 
-        pub all-written : n ≤ length lent → lent′ ≡ combined desk house ++ drop (length (combined desk house)) lent → Combines desk house (given n) lent lent′
+        places-there : leb (length (combined desk house)) (length lent) ≡ true
+        unfolding roomFor
+        places-there = need-given ROOM _ _ sound (need-given FULL _ _ sound room-given .1) .0
+
+        pub write-asks : (closedOk desk ≡ true) × (closedOk house ≡ true) × (length (combined desk house) ≤ length lent)
+        write-asks = (sym p ∙ not-false t e, sym q ∙ not-false u f, leb-true _ _ places-there)
+
+        pub count-few : (n : ℕ) → n ≡ length (combined desk house) → n ≤ 4096
+        count-few n c = omega (arith, leb-true (length (combined desk house)) 4096 few-there)
+
+        pub all-written : {lent′ : List ℕ} (n : ℕ) → (n ≡ length (combined desk house)) × (lent′ ≡ combined desk house ++ drop (length (combined desk house)) lent) → Combines desk house (given n) lent lent′
         unfolding combineOf need lentAfter
-        all-written l w =
-            let a : combineOf desk house (length lent) ≡ given (length (combined desk house)) = rw (sym p ∙ not-false t e, sym q ∙ not-false u f, fits-few, le-leb (length (combined desk house)) (length lent) (omega arith)) refl in
-            record { says = ap given c ∙ sym a; writes = w ∙ ap (λ (r : Answer ℕ). lentAfter r (combined desk house) lent) (sym a) }
+        all-written n w =
+            let a : combineOf desk house (length lent) ≡ given (length (combined desk house)) = rw (sym p ∙ not-false t e, sym q ∙ not-false u f, few-there, places-there) refl in
+            record { says = ap given (w .0) ∙ sym a; writes = w .1 ∙ ap (λ (x : Answer ℕ). lentAfter x (combined desk house) lent) (sym a) }
 
 pub both-keep : (desk house : List ℕ) (t : Bool) → t ≡ closedOk desk → not t ≡ false → (u : Bool) → u ≡ closedOk house → not u ≡ false → (closedOk desk ≡ true) × (closedOk house ≡ true)
 both-keep desk house t p e u q f = (sym p ∙ not-false t e, sym q ∙ not-false u f)

@@ -6,9 +6,9 @@ use mathlib.Core.Bool.{Bool, true, false}
 use mathlib.Core.List.{List, [], _∷_, _++_}
 use lib.Dec.{eqb, leb}
 use lib.ListN.{length, take, drop, set}
-use Rattle.refusal.specs.Answer.{Answer, given, refused, need, then, ROOM}
+use Rattle.refusal.specs.Answer.{Answer, given, refused, need, then, ROOM, FULL}
 use Rattle.date.specs.Date.{step}
-use Rattle.calendar.specs.Calendar.{sound}
+use Rattle.calendar.specs.Calendar.{Sound, sound}
 use Rattle.desk.specs.declared.Told.{Told}
 use Rattle.desk.specs.declared.Told.the-variants as told-is
 use Rattle.desk.specs.Desk.{yearOf, entriesIn, runOf, askedOf, combined}
@@ -84,3 +84,7 @@ pub record Turns (desk house : List ℕ) (front own next : ℕ) : Type 0 where
   pub order : front ≤ next
   pub in-house : next ≤ length house
   pub same : combined desk house ≡ take front house ++ (take own desk ++ combined (drop own desk) (drop next house))
+
+-- so many entries in so much room: 23 for more than 4,096, then 14
+unfoldable pub roomFor : (n room : ℕ) → Answer Sound
+roomFor n room = need FULL (leb n 4096) (need ROOM (leb n room) (given sound))

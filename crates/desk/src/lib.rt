@@ -144,13 +144,9 @@ pub fn combine(desk: &[u32], house: &[u32], out: &mut [u32]) -> Numbered
     if !closed_dates::keep_rule(house) {
         return Numbered::Refused(refusal::CALENDAR);
     }
-    let count = merging::count(desk, house);
-    if 4096 < count {
-        return Numbered::Refused(refusal::FULL);
+    let room = merging::room_for(desk, house, out.len());
+    match room {
+        Checked::Sound => Numbered::Number(merging::write(desk, house, out) as u32),
+        Checked::Refused(n) => Numbered::Refused(n),
     }
-    if out.len() < count {
-        return Numbered::Refused(refusal::ROOM);
-    }
-    merging::write(desk, house, out);
-    Numbered::Number(count as u32)
 }

@@ -1,15 +1,18 @@
 // The combined list of two lists that keep their rule: the desk's entries, and the house's whose year has none of the desk's. It is merged by
 // the desk's years, each found once from where the last one ended.
 ghost use mathlib.Core.Path.{_≡_};
-ghost use mathlib.Core.Bool.{true};
+ghost use mathlib.Core.Bool.{true, _&&_};
 ghost use mathlib.Core.List.{_++_};
 ghost use Prim.Native.Nat.{_+_, _≤_, _<_};
+ghost use lib.Dec.{leb};
 ghost use lib.ListN.{length, drop};
 ghost use lib.Seq.{paste};
 ghost use Rattle.calendar.specs.Open.{closedOk};
+ghost use Rattle.calendar.specs.Calendar.{checked};
 ghost use Rattle.desk.specs.Desk.{combined};
-ghost use Rattle.desk.specs.Runs.{Turns};
+ghost use Rattle.desk.specs.Runs.{Turns, roomFor};
 use crate::years;
+use calendar::Checked;
 use calendar::closed_dates;
 use date::civil;
 
@@ -34,7 +37,7 @@ fn first_year(desk: &[u32], house: &[u32]) -> Turn
 }
 
 // How many entries it has.
-pub(crate) fn count(desk: &[u32], house: &[u32]) -> usize
+fn count(desk: &[u32], house: &[u32]) -> usize
     requires { ⌜ (closedOk (now desk) ≡ true) × (closedOk (now house) ≡ true) ⌝ }
     ensures { λ r. ⌜ r ≡ length (combined (now (desk .entry)) (now (house .entry))) ⌝ }
 {
@@ -62,10 +65,36 @@ fn copy(list: &[u32], out: &mut [u32], at: usize)
     }
 }
 
-// Writes it over the start of a lent list.
-pub(crate) fn write(desk: &[u32], house: &[u32], out: &mut [u32])
+// Whether both lists together have a place in so much room.
+fn have_room(both: usize, room: usize) -> bool
+    ensures { λ r. ⌜ r ≡ (leb both 4096 && leb both room) ⌝ }
+{
+    both <= 4096 && both <= room
+}
+
+// Whether it has a place in so much room: 23 for more than 4,096 entries, then 14. Its entries are counted only where those of both lists together
+// might be too many, since nothing may be written before a refusal is known.
+pub(crate) fn room_for(desk: &[u32], house: &[u32], room: usize) -> Checked
+    requires { ⌜ (closedOk (now desk) ≡ true) × (closedOk (now house) ≡ true) ⌝ }
+    ensures { λ r. ⌜ checked r ≡ roomFor (length (combined (now (desk .entry)) (now (house .entry)))) room ⌝ }
+{
+    if have_room(desk.len() + house.len(), room) {
+        return Checked::Sound;
+    }
+    let n = count(desk, house);
+    if 4096 < n {
+        return Checked::Refused(refusal::FULL);
+    }
+    if room < n {
+        return Checked::Refused(refusal::ROOM);
+    }
+    Checked::Sound
+}
+
+// Writes it over the start of a lent list, and answers how many entries it has.
+pub(crate) fn write(desk: &[u32], house: &[u32], out: &mut [u32]) -> usize
     requires { ⌜ (closedOk (now desk) ≡ true) × (closedOk (now house) ≡ true) × (length (combined (now desk) (now house)) ≤ length (now out)) ⌝ }
-    ensures { λ _. ⌜ now (out .exit) ≡ combined (now (desk .entry)) (now (house .entry)) ++ drop (length (combined (now (desk .entry)) (now (house .entry)))) (now (out .entry)) ⌝ }
+    ensures { λ r. ⌜ (r ≡ length (combined (now (desk .entry)) (now (house .entry)))) × (now (out .exit) ≡ combined (now (desk .entry)) (now (house .entry)) ++ drop (length (combined (now (desk .entry)) (now (house .entry)))) (now (out .entry))) ⌝ }
 {
     let mut i = 0;
     let mut j = 0;
@@ -81,4 +110,5 @@ pub(crate) fn write(desk: &[u32], house: &[u32], out: &mut [u32])
         j += t.next;
     }
     copy(&house[j..], out, n);
+    n + (house.len() - j)
 }

@@ -4,7 +4,7 @@ use native.Mathlib.Omega.{arith}
 use borrow.Author.Needs.{needs}
 use Prim.Native.Nat.{_-_}
 use lib.ListN.{length}
-use Rattle.desk.proofs.Turning.{Laying, laying-none, turn-asks, laid-counts, laid-front, count-desk, count-house, count-small, front-fits, own-fits, laying-more, last-fits-in, laid-all, laid-size}
+use Rattle.desk.proofs.Turning.{Laying, laying-none, turn-asks, laid-counts, laid-front, count-desk, count-house, count-small, front-fits, own-fits, laying-more, last-fits-in, laid-all, laid-size, count-all, count-all-small}
 use Rattle.desk.proofs.merging.write.Statement.{statement}
 use Rattle.desk.proofs.merging.write.Tie as tie
 
@@ -195,6 +195,18 @@ copy-requires-3 c κs =
     let after : tie.After-loop Inv-loop μ-loop = search in
     last-fits-in (at .loop .inv) (start .pre .1) (after .loop-test .left) (start .pre .2)
 
+sub-result : tie.Need-sub-result Inv-loop μ-loop
+sub-result c =
+    let at : tie.At-loop Inv-loop μ-loop = search in
+    at .loop .inv .in-house
+
+add-result : tie.Need-add-result Inv-loop μ-loop
+add-result c =
+    let at : tie.At-loop Inv-loop μ-loop = search in
+    let start : tie.Start Inv-loop μ-loop = search in
+    let after : tie.After-loop Inv-loop μ-loop = search in
+    record { fits = omega (arith, count-all-small _ _ _ _ _ (start .pre .0, start .pre .1) (laid-counts (at .loop .inv)) (after .loop-test .left)) }
+
 same-length : tie.Need-same-length Inv-loop μ-loop
 same-length c =
     let copy3 : tie.After-copy3 Inv-loop μ-loop = search in
@@ -209,7 +221,7 @@ returns c =
     let at : tie.At-loop Inv-loop μ-loop = search in
     let start : tie.Start Inv-loop μ-loop = search in
     let after : tie.After-loop Inv-loop μ-loop = search in
-    laid-all (at .loop .inv) (start .pre .1) (after .loop-test .left) (start .pre .2) (copy3 .copy3 .ensures)
+    (count-all _ _ _ _ _ (start .pre .0, start .pre .1) (laid-counts (at .loop .inv)) (after .loop-test .left), laid-all (at .loop .inv) (start .pre .1) (after .loop-test .left) (start .pre .2) (copy3 .copy3 .ensures))
 
 pub write-spec : {M : Type 1} → statement M
 write-spec =
@@ -250,5 +262,7 @@ write-spec =
     part-copy-start-3
     part-copy-end-3
     copy-requires-3
+    sub-result
+    add-result
     same-length
     returns)
