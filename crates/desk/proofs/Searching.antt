@@ -218,14 +218,9 @@ module _ (mask : ℕ) (desk house : List ℕ) where
   unfolding calendarsOk calendarOk
   all-shut e = sym (rw (eq-eqb (mask % 128) 127 e) refl)
 
-  module _ (m : mask % 128 ≡ 127 → ⊥) (t : Bool) (p : t ≡ closedOk desk) where
-    pub desk-broken : not t ≡ true → false ≡ calendarsOk mask desk house
-    unfolding calendarsOk calendarOk
-    desk-broken e = sym (rw (ne-eqb (mask % 128) 127 m, sym p ∙ not-true t e) refl)
-
-    pub house-decides : not t ≡ false → (r : Bool) → r ≡ closedOk house → r ≡ calendarsOk mask desk house
-    unfolding calendarsOk calendarOk
-    house-decides e r q = rw (ne-eqb (mask % 128) 127 m, sym p ∙ not-false t e) q
+  pub lists-decide : (mask % 128 ≡ 127 → ⊥) → (t : Bool) → t ≡ (closedOk desk && closedOk house) → t ≡ calendarsOk mask desk house
+  unfolding calendarsOk calendarOk
+  lists-decide l t p = p ∙ sym (rw (ne-eqb (mask % 128) 127 l) refl)
 
   module _ (t : Bool) (p : t ≡ calendarsOk mask desk house) (e : not t ≡ false) where
     both-ok : (calendarOk mask desk ≡ true) × (closedOk house ≡ true)

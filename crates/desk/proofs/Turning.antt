@@ -382,20 +382,22 @@ module _ (desk house lent : List ℕ) where
   unfolding lentAfter
   as-refused k e w = record { says = sym e; writes = rw e w }
 
-  pub no-desk-list : {lent′ : List ℕ} (t : Bool) → t ≡ closedOk desk → not t ≡ true → lent′ ≡ lent → Combines desk house (refused CALENDAR) lent lent′
+  pub no-lists : {lent′ : List ℕ} (t : Bool) → t ≡ (closedOk desk && closedOk house) → not t ≡ true → lent′ ≡ lent → Combines desk house (refused CALENDAR) lent lent′
   unfolding combineOf need
-  no-desk-list t p e w = as-refused CALENDAR (rw (sym p ∙ not-true t e) refl) w
+  no-lists t p e w = as-refused CALENDAR (rw (sym p ∙ not-true t e) refl) w
 
-  module _ (t : Bool) (p : t ≡ closedOk desk) (e : not t ≡ false) where
-    pub no-house-list : {lent′ : List ℕ} (u : Bool) → u ≡ closedOk house → not u ≡ true → lent′ ≡ lent → Combines desk house (refused CALENDAR) lent lent′
-    unfolding combineOf need
-    no-house-list u q f w = as-refused CALENDAR (rw (sym p ∙ not-false t e, sym q ∙ not-true u f) refl) w
+  module _ (t : Bool) (p : t ≡ (closedOk desk && closedOk house)) (e : not t ≡ false) where
+    keeps : (closedOk desk && closedOk house) ≡ true
+    keeps = sym p ∙ not-false t e
 
-    module _ (u : Bool) (q : u ≡ closedOk house) (f : not u ≡ false) (r : Checked) (h : checked r ≡ roomFor (length (combined desk house)) (length lent)) where
+    pub both-keep : (closedOk desk ≡ true) × (closedOk house ≡ true)
+    both-keep = both (closedOk desk) (closedOk house) keeps
+
+    module _ (r : Checked) (h : checked r ≡ roomFor (length (combined desk house)) (length lent)) where
       pub no-place : {lent′ : List ℕ} (k : ℕ) → r ≡ checked-is.Refused k → lent′ ≡ lent → Combines desk house (refused k) lent lent′
       unfolding combineOf need checked roomFor
       no-place k g w =
-          as-refused k (rw (sym p ∙ not-false t e, sym q ∙ not-false u f) (by (leb (length (combined desk house)) 4096) (leb (length (combined desk house)) (length lent)) (sym h ∙ ap checked g))) w
+          as-refused k (rw keeps (by (leb (length (combined desk house)) 4096) (leb (length (combined desk house)) (length lent)) (sym h ∙ ap checked g))) w
         where
           by : (a b : Bool) → need FULL a (need ROOM b (given sound)) ≡ refused k → need FULL a (need ROOM b (given (length (combined desk house)))) ≡ refused k
           by true true z = let m : _≡_ {A = ℕ} 0 1 = cc in let bad : ⊥ = omega arith in absurd bad
@@ -416,7 +418,7 @@ module _ (desk house lent : List ℕ) where
         places-there = need-given ROOM _ _ sound (need-given FULL _ _ sound room-given .1) .0
 
         pub write-asks : (closedOk desk ≡ true) × (closedOk house ≡ true) × (length (combined desk house) ≤ length lent)
-        write-asks = (sym p ∙ not-false t e, sym q ∙ not-false u f, leb-true _ _ places-there)
+        write-asks = (both-keep .0, both-keep .1, leb-true _ _ places-there)
 
         pub count-few : (n : ℕ) → n ≡ length (combined desk house) → n ≤ 4096
         count-few n c = omega (arith, leb-true (length (combined desk house)) 4096 few-there)
@@ -424,8 +426,5 @@ module _ (desk house lent : List ℕ) where
         pub all-written : {lent′ : List ℕ} (n : ℕ) → (n ≡ length (combined desk house)) × (lent′ ≡ combined desk house ++ drop (length (combined desk house)) lent) → Combines desk house (given n) lent lent′
         unfolding combineOf need lentAfter
         all-written n w =
-            let a : combineOf desk house (length lent) ≡ given (length (combined desk house)) = rw (sym p ∙ not-false t e, sym q ∙ not-false u f, few-there, places-there) refl in
+            let a : combineOf desk house (length lent) ≡ given (length (combined desk house)) = rw (keeps, few-there, places-there) refl in
             record { says = ap given (w .0) ∙ sym a; writes = w .1 ∙ ap (λ (x : Answer ℕ). lentAfter x (combined desk house) lent) (sym a) }
-
-pub both-keep : (desk house : List ℕ) (t : Bool) → t ≡ closedOk desk → not t ≡ false → (u : Bool) → u ≡ closedOk house → not u ≡ false → (closedOk desk ≡ true) × (closedOk house ≡ true)
-both-keep desk house t p e u q f = (sym p ∙ not-false t e, sym q ∙ not-false u f)

@@ -1,6 +1,6 @@
 // A desk's closed dates over the house's: for each year the desk's if it has any there, otherwise the house's.
 ghost use mathlib.Core.Path.{_≡_};
-ghost use mathlib.Core.Bool.{true};
+ghost use mathlib.Core.Bool.{true, _&&_};
 ghost use Rattle.date.specs.Date.{dated, numbered};
 ghost use Rattle.calendar.specs.Open.{closedOk};
 ghost use Rattle.calendar.specs.Calendar.{checked};
@@ -101,16 +101,22 @@ pub fn run<'a>(desk: &'a [u32], house: &'a [u32], year: u32) -> &'a [u32]
     }
 }
 
+fn keep_rules(desk: &[u32], house: &[u32]) -> bool
+    ensures { λ r. ⌜ r ≡ (closedOk (now (desk .entry)) && closedOk (now (house .entry))) ⌝ }
+{
+    if !closed_dates::keep_rule(desk) {
+        return false;
+    }
+    closed_dates::keep_rule(house)
+}
+
 fn is_sound(mask: u8, desk: &[u32], house: &[u32]) -> bool
     ensures { λ r. ⌜ r ≡ calendarsOk mask (now (desk .entry)) (now (house .entry)) ⌝ }
 {
     if mask % 128 == 127 {
         return false;
     }
-    if !closed_dates::keep_rule(desk) {
-        return false;
-    }
-    closed_dates::keep_rule(house)
+    keep_rules(desk, house)
 }
 
 // The adjusted date, each day that is tried open or closed by the run of its own year.
@@ -138,10 +144,7 @@ pub fn adjust<'a>(
 pub fn combine(desk: &[u32], house: &[u32], out: &mut [u32]) -> Numbered
     ensures { λ r. ⌜ Combines (now (desk .entry)) (now (house .entry)) (numbered r) (now (out .entry)) (now (out .exit)) ⌝ }
 {
-    if !closed_dates::keep_rule(desk) {
-        return Numbered::Refused(refusal::CALENDAR);
-    }
-    if !closed_dates::keep_rule(house) {
+    if !keep_rules(desk, house) {
         return Numbered::Refused(refusal::CALENDAR);
     }
     let room = merging::room_for(desk, house, out.len());
