@@ -6,7 +6,7 @@ use mathlib.Core.Bool.{Bool, true, false, not, _&&_}
 use mathlib.Core.List.{List}
 use native.Mathlib.Omega.{arith}
 use lib.Dec.{eqb, leb}
-use borrow.Author.Tests.{leb-true, leb-false, le-leb, eq-eqb, ne-eqb, not-true, not-false}
+use borrow.Author.Tests.{leb-true, leb-false, le-leb, eq-eqb, ne-eqb, not-false}
 use Rattle.refusal.specs.Answer.{Answer, given, refused, need, then, BOOK}
 use Rattle.refusal.specs.Laws.Answers.{holds, both, then-given, then-refused}
 use Rattle.date.specs.declared.Fields.{Fields}

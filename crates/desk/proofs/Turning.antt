@@ -3,12 +3,12 @@
 use Prim.Native.Nat.{ℕ, zero, suc, _+_, _-_, _≤_, _<_}
 use mathlib.Core.Path.{_≡_, refl, sym, ap, _∙_}
 use mathlib.Core.Bool.{Bool, true, false, not, _&&_}
-use mathlib.Core.List.{List, [], _∷_, _++_, append-assoc, append-nil}
+use mathlib.Core.List.{List, [], _∷_, _++_, append-assoc}
 use native.Mathlib.Nat.{le-antisymm}
 use native.Mathlib.Numerals.{add-one}
 use native.Mathlib.Omega.{arith}
 use lib.Dec.{leb}
-use lib.ListN.{length, getD, take, drop, set, length-set, length-append, length-take, length-drop, take-append-drop, drop-of-length-le}
+use lib.ListN.{length, getD, take, drop, set, length-set, length-append, length-drop, take-append-drop, drop-of-length-le}
 use lib.Seq.{paste, length-paste, paste-zero, paste-suc, take-all, take-at, drop-append-add, drop-drop, getD-take, getD-drop, take-length, length-take-le}
 use borrow.Author.Needs.{needs}
 use borrow.Author.Tests.{leb-true, leb-false, le-leb, lt-leb, not-true, not-false}

@@ -3,8 +3,7 @@
 use Prim.Native.Nat.{ℕ, zero, suc, _+_}
 use mathlib.Core.Path.{_≡_, refl}
 use mathlib.Core.Bool.{Bool, true, false}
-use mathlib.Core.List.{List, [], _∷_, _++_}
-use lib.ListN.{length, drop}
+use mathlib.Core.List.{List, [], _∷_}
 use Rattle.refusal.specs.Answer.{Answer, given, refused, need, then, BOOK, CALENDAR, CLOSED, ROOM}
 use Rattle.date.specs.Civil.{leap, rowOf, monthLength, gone, sumTo, dayNumber, guess, yearsGone, monthIn, dayIn, placeOf, fieldsAt}
 use Rattle.date.specs.Date.{inBook, withinSpan, monthIndex, step}

@@ -10,7 +10,7 @@ use lib.Dec.{eqb, leb, ltb}
 use lib.ListN.{length}
 use mathlib.Core.Logic.{⊎-elim}
 use native.Mathlib.Nat.{eq-or-lt-of-le}
-use borrow.Author.Tests.{leb-true, le-leb, ltb-true, ltb-false, ne-eqb, eqb-false}
+use borrow.Author.Tests.{leb-true, le-leb, ltb-true, ltb-false, eqb-false}
 use Rattle.refusal.specs.Answer.{Answer, need, BOOK, CALENDAR}
 use Rattle.refusal.specs.Laws.Answers.{both}
 use Rattle.date.specs.Date.{SPAN-FIRST, SPAN-LAST, inBook}

@@ -3,12 +3,12 @@
 -- Assumes nothing.
 use Prim.Native.Nat.{ℕ}
 use mathlib.Core.Path.{_≡_, refl, sym, ap, _∙_}
-use mathlib.Core.Bool.{Bool, true, _&&_}
-use mathlib.Core.List.{List, _++_}
+use mathlib.Core.Bool.{true}
+use mathlib.Core.List.{List}
 use lib.Dec.{leb}
 use lib.ListN.{length, take, drop}
 use lib.Seq.{take-at}
-use Rattle.refusal.specs.Answer.{Answer, given, need, CALENDAR, ROOM, FULL}
+use Rattle.refusal.specs.Answer.{Answer, given, CALENDAR, ROOM, FULL}
 use Rattle.refusal.specs.Laws.Answers.{both, need-given, one-given}
 use Rattle.calendar.specs.Open.{isOpen, closedOk, calendarOk}
 use Rattle.desk.specs.Desk.{opensOver, calendarsOk, combined, combineOf, lentAfter, Combines}

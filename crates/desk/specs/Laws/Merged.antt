@@ -1,16 +1,16 @@
 -- A turn of the merge: what the combined list begins with, up to the end of the desk's first year.
 -- Assumes nothing.
 use Prim.Native.Nat.{ℕ, zero, suc, _+_, _-_, _≤_, _<_}
-use mathlib.Core.Path.{_≡_, refl, sym, ap, _∙_}
+use mathlib.Core.Path.{_≡_, refl, ap, _∙_}
 use mathlib.Core.Bool.{Bool, true, false}
 use mathlib.Core.List.{List, [], _∷_, _++_}
 use native.Mathlib.Omega.{arith}
-use lib.Dec.{eqb, leb, ltb}
+use lib.Dec.{eqb, ltb}
 use lib.ListN.{length, getD, take, drop}
 use borrow.Author.Tests.{leb-true, le-leb, le-ltb, lt-ltb, eq-eqb, ne-eqb}
 use Rattle.calendar.specs.Open.{ascending}
 use Rattle.desk.specs.Desk.{yearOf, kept, entriesIn, hasNone, leftTo, before, put, putIf, combined}
-use Rattle.desk.specs.Laws.Ascending.{asc, cons, empty, lower}
+use Rattle.desk.specs.Laws.Ascending.{asc, cons, empty}
 use Rattle.desk.specs.Laws.Combined.{combined-ascends}
 use Rattle.desk.specs.Laws.Entries.{nothing}
 use Rattle.desk.specs.Laws.Years.{earlier-year}

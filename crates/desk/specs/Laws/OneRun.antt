@@ -9,7 +9,7 @@ use native.Mathlib.Omega.{arith}
 use lib.Dec.{eqb}
 use Rattle.date.specs.Date.{SPAN-FIRST, SPAN-LAST}
 use Rattle.calendar.specs.Open.{member, ascending, closedOk}
-use Rattle.desk.specs.Desk.{yearOf, entriesIn, orElse, runOf, hasNone, leftTo, combined}
+use Rattle.desk.specs.Desk.{yearOf, entriesIn, runOf, hasNone, leftTo, combined}
 use Rattle.desk.specs.Laws.Ascending.{one-ascending}
 use Rattle.desk.specs.Laws.Entries.{entry-member, or-else}
 use Rattle.desk.specs.Laws.Runs.{run-ok}
