@@ -12,6 +12,7 @@ struct asked {
     uint32_t end_day, list[3];
     size_t count;
     struct calendar calendar;
+    struct dates desk, house;
     int64_t answer;
 };
 
@@ -156,6 +157,48 @@ static int ask_index(const char *kind, struct asked *a)
     return 0;
 }
 
+/* A desk's closed dates over the house's. */
+
+static void desk_run(void *with)
+{
+    struct asked *a = (struct asked *)with;
+    a->answer = heronspan_desk_run(a->desk.at, a->desk.count, a->house.at, a->house.count, a->day, a->list, 2);
+}
+
+static void desk_adjust(void *with)
+{
+    struct asked *a = (struct asked *)with;
+    a->answer = heronspan_desk_adjust(a->day, a->convention, a->calendar.mask, a->desk.at, a->desk.count, a->house.at, a->house.count);
+}
+
+static void desk_combine(void *with)
+{
+    struct asked *a = (struct asked *)with;
+    a->answer = heronspan_desk_combine(a->desk.at, a->desk.count, a->house.at, a->house.count, dates, a->count);
+}
+
+static int ask_desk(const char *kind, struct asked *a)
+{
+    int run = strcmp(kind, "deskrun") == 0, combine = strcmp(kind, "deskcombine") == 0;
+    if (!run && !combine && strcmp(kind, "deskadjust") != 0)
+        return 0;
+    if (combine) {
+        a->count = (size_t)number();
+        if (a->count > PLACES)
+            stop("more places than there are");
+    } else {
+        a->day = day(); /* of a run: its year */
+    }
+    if (!run && !combine) {
+        a->convention = byte();
+        a->calendar.mask = byte();
+    }
+    a->desk = dates_in(0);
+    a->house = dates_in(1);
+    print_times(run ? desk_run : combine ? desk_combine : desk_adjust, a);
+    return 1;
+}
+
 static void say_code(int64_t n)
 {
     if (n < 0)
@@ -246,7 +289,7 @@ static void ask(const char *kind)
         print_times(imm_code, &a);
         say_code(a.answer);
         return;
-    } else if (!ask_index(kind, &a)) {
+    } else if (!ask_index(kind, &a) && !ask_desk(kind, &a)) {
         printf("unasked");
         return;
     }

@@ -204,6 +204,13 @@ int64_t heronspan_desk_run(const uint32_t *desk, size_t desk_len, const uint32_t
 int64_t heronspan_desk_adjust(uint32_t day, uint8_t convention, uint8_t mask, const uint32_t *desk, size_t desk_len, const uint32_t *house,
                               size_t house_len);
 
+/* The two lists as one: the desk's entries, and the house's whose year has none of the desk's, ascending. It is written over the start of
+   `closed`, and how many entries it has is answered; over these every function that takes closed dates answers for desk and house. 3 for
+   either list, then HERONSPAN_FULL where it has more than HERONSPAN_MOST entries, then 14 where `closed` is shorter; a refusal leaves `closed`
+   as it was, and places behind the entries always stay. `closed` shares no place with either list. */
+int64_t heronspan_desk_combine(const uint32_t *desk, size_t desk_len, const uint32_t *house, size_t house_len, uint32_t *closed,
+                               size_t closed_len);
+
 /* ---- IMM dates and codes. `main` is 1 for the main cycle (March, June, September, December), 0 for every month. A code is a
  * letter and a digit; where one is answered, it is letter * 256 + digit, both bytes. */
 

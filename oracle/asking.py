@@ -476,6 +476,28 @@ class Questions:
         year = r.choice((0, 1799, 1800, 2399, 2400, 4294967295)) if r.random() < .03 else date.fromordinal(day).year + r.choice((0, 0, 0, 0, 1, -1))
         return f"deskrun {year} {desk} {house}"
 
+    def deskcombine(self):
+        """Room, and lists that share years, meet at a year's end, or have no year in common; now and then long ones."""
+        r = self.r
+        if r.random() < .02:
+            year, more = r.randrange(1801, 2300), r.choice((0, 0, 1, 2))
+            start = number(year, 1, 1)
+            cut = number(year + r.randrange(12), 1, 1) - start + r.choice((-1, 0, 0, 0, 1))
+            early, late = [start + at for at in range(cut)], [start + cut + at for at in range(4096 - cut + more)]
+            lists = [early, late]
+            r.shuffle(lists)
+        else:
+            year = r.randrange(1800, 2390)
+            ends = [number(year + at, *end) for at in range(r.randrange(1, 9)) for end in ((1, 1), (12, 31))]
+            pool = sorted({*ends, *(r.randrange(ends[0], ends[-1] + 1) for _ in range(r.randrange(12)))})
+            lists = [[day for day in pool if r.random() < often] for often in (r.choice((0, .1, .3, .7)), r.choice((0, .3, .7, 1)))]
+            for list_ in lists:
+                if len(list_) > 1 and r.random() < .03:
+                    list_[-1] = r.choice((list_[0], list_[-2], 876217, 4294967295))
+        size = sum(map(len, lists))
+        room = r.choice((4096, 4096, size, max(0, size - 1), r.randrange(4097)))
+        return " ".join(map(str, ["deskcombine", min(room, 4096), *(word for list_ in lists for word in (len(list_), *list_))]))
+
     def deskadjust(self):
         """A day, often near the end of a year, and the two lists."""
         r = self.r
@@ -554,7 +576,7 @@ class Questions:
 SMALL = ("next20 prev20 adjust monthend ismonthend advance immdate immcode code date nextdate nextdatecode nextcode "
          "nextcodecode dateadvance nth nextweekday dmonthend make fields difference compare times").split()
 YEARS = ["yearfraction", "yearparts", "yearreport"]
-DESK = ["deskrun", "deskadjust"]
+DESK = ["deskrun", "deskadjust", "deskcombine"]
 MORE = ["open", "check", "lent", "coming", *DESK, "bytes", "strange", *YEARS]
 # Asked only by name, since the law counts every day from 1800 on.
 INDEX = ["ixmake", "ixcount", "ixnth", "ixadd", "ixremove"]

@@ -40,7 +40,7 @@ TODAY = 739252  # 2025-01-01, which smallest inputs are drawn to
 # Positions of dates among a question's words.
 DATES = {"build": (1, 2, 9, 10), "trace": (1, 2, 9, 10), "coming": (1, 2, 3), "date": (2,), "nextdatecode": (3,), "nextcodecode": (3,),
          "difference": (1, 2), "compare": (1, 2), "nth": (), "make": (), "times": (), "immcode": (), "check": (), "ixcount": (1, 2), "ixmake": (),
-         "deskrun": ()}
+         "deskrun": (), "deskcombine": ()}
 # Where the calendar starts.
 CALENDAR = {"build": 11, "trace": 11, "coming": 12, "lent": 14, "check": 1, "open": 2, "adjust": 3, "monthend": 2, "ismonthend": 2, "advance": 6,
             "ixmake": 2, "ixcount": 4, "ixnth": 4, "ixadd": 3, "ixremove": 3}

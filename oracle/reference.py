@@ -185,6 +185,12 @@ class DeskCalendar(Calendar):
                 return which, places
         return 0, []
 
+    def combined(self):
+        """Every date that some run holds, in order."""
+        years = sorted({civil(day).year for closed in self.lists for day in closed})
+        runs = (self.run(year) for year in years)
+        return [self.lists[which - 1][at] for which, places in runs for at in places]
+
     def open(self, day):
         which, places = self.run(civil(day).year)
         return not self.mask >> (day - 1) % 7 & 1 and day not in [self.lists[which - 1][at] for at in places]
@@ -642,6 +648,15 @@ def ask_deskrun(w):
     return f"{len(places)} {which} {places[0] if places else 0}"
 
 
+def ask_deskcombine(w):
+    room, calendar = w.number(), DeskCalendar(0, w.dates(), w.dates())
+    calendar.check()
+    dates = calendar.combined()
+    need(len(dates) <= 4096, FULL)
+    need(len(dates) <= room, ROOM)
+    return " ".join(map(str, [len(dates), *dates]))
+
+
 def ask_deskadjust(w):
     day, convention, calendar = w.book(), w.number(), DeskCalendar(w.number(), w.dates(), w.dates())
     calendar.check()
@@ -800,6 +815,7 @@ ASK = {
     "adjust": ask_adjust,
     "deskrun": ask_deskrun,
     "deskadjust": ask_deskadjust,
+    "deskcombine": ask_deskcombine,
     "monthend": ask_monthend,
     "ismonthend": ask_ismonthend,
     "advance": ask_advance,

@@ -83,6 +83,18 @@ int main(void) {
     print_day(reader.request[HERONSPAN_ASKED_EFFECTIVE]);
     printf("\n");
 
+    /* A desk's closed date over the house's four, as one list: the house's of 2026 stay, its of 2025 do not. */
+    uint32_t christmas = (uint32_t)heronspan_make(2025, 12, 25), new_year = (uint32_t)heronspan_make(2026, 1, 1);
+    uint32_t house[] = {christmas, christmas + 1, new_year, new_year + 1};
+    int64_t both = heronspan_desk_combine(&christmas, 1, house, 4, closed, HERONSPAN_MOST);
+    printf("desk and house:");
+    for (int64_t i = 0; i < both; i++) {
+        printf(" ");
+        print_day(closed[i]);
+    }
+    printf("\n");
+    print_refusal("two places", heronspan_desk_combine(&christmas, 1, house, 4, closed, 2));
+
     /* 0 is no date: it is neither before nor after the real ones. */
     print_refusal("a missing date", heronspan_compare(0, effective));
     return same_names() ? 0 : 1;

@@ -63,4 +63,13 @@ int64_t __wrap_heronspan_year_parts(uint8_t basis, uint32_t start, uint32_t end,
         parts[0]++;
     return n;
 }
+#elif defined FAULT_COMBINE
+/* A combined list of too many entries is refused for its room. */
+int64_t __real_heronspan_desk_combine(const uint32_t *, size_t, const uint32_t *, size_t, uint32_t *, size_t);
+int64_t __wrap_heronspan_desk_combine(const uint32_t *desk, size_t desk_count, const uint32_t *house, size_t house_count,
+                                      uint32_t *closed, size_t places)
+{
+    int64_t n = __real_heronspan_desk_combine(desk, desk_count, house, house_count, closed, places);
+    return n == -HERONSPAN_FULL ? -HERONSPAN_ROOM : n;
+}
 #endif

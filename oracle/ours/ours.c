@@ -359,6 +359,22 @@ static void say_run(uint32_t year, struct dates desk, struct dates house)
         say(" no room was not refused");
 }
 
+/* The combined list; the places behind it keep what they held, and all of them on a refusal. */
+static void say_combined(size_t places, struct dates desk, struct dates house)
+{
+    fresh(places);
+    int64_t n = heronspan_desk_combine(desk.at, desk.count, house.at, house.count, dates, places);
+    if (!kept(n < 0 ? 0 : (size_t)n, 0, 0, places))
+        say("wrote elsewhere");
+    else if (n < 0)
+        say_number(n);
+    else {
+        say("%lld", (long long)n);
+        for (int64_t i = 0; i < n; i++)
+            say(" %u", dates[i]);
+    }
+}
+
 static int ask_calendar(const char *kind)
 {
     if (is(kind, "check")) {
@@ -382,6 +398,12 @@ static int ask_calendar(const char *kind)
         uint8_t convention = byte(), mask = byte();
         struct dates desk = dates_in(0), house = dates_in(1);
         say_number(heronspan_desk_adjust(d, convention, mask, desk.at, desk.count, house.at, house.count));
+    } else if (is(kind, "deskcombine")) {
+        size_t places = (size_t)number();
+        struct dates desk = dates_in(0), house = dates_in(1);
+        if (places > PLACES)
+            stop("more places than there are");
+        say_combined(places, desk, house);
     } else if (is(kind, "monthend")) {
         uint32_t d = day();
         struct calendar c = calendar();

@@ -145,6 +145,7 @@ _PARAMETERS = {
     "desk_check": [*_days, *_days, _u32],
     "desk_run": [*_days, *_days, _u32, *_days],
     "desk_adjust": [_u32, _u8, _u8, *_days, *_days],
+    "desk_combine": [*_days, *_days, *_days],
     "is_imm_date": [_u32, _u8],
     "is_imm_code": [*_bytes, _u8],
     "imm_code": [_u32],
@@ -407,6 +408,14 @@ class DeskCalendar:
     def adjust(self, day: Optional[date], convention: Convention) -> date:
         """The date adjusted, each day that is tried open or closed by the run of its own year."""
         return _date(_ask("desk_adjust", _number(day), _byte(convention), self.mask, *self._lists))
+
+    def combined(self, room: int = MOST) -> Calendar:
+        """One calendar in place of the two lists, in which the same days are open: the desk's dates, and the house's whose year has none of
+        the desk's. FULL where these are more than 4,096, ROOM where they are more than the room."""
+        places = _in(room, 0, 2**32 - 1, Refusal.ROOM)
+        closed = (_u32 * min(places, MOST))()
+        count = _ask("desk_combine", *self._lists, closed, len(closed))
+        return Calendar(self.mask, map(date.fromordinal, closed[:count]))
 
 
 # ---- IMM dates and codes

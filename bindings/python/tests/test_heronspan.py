@@ -2,7 +2,7 @@
 
 import ctypes
 import unittest
-from datetime import date
+from datetime import date, timedelta
 from fractions import Fraction
 
 import heronspan as h
@@ -124,6 +124,29 @@ class Calendars(Refusals):
         at_end = h.DeskCalendar(h.WEEKENDS, days("2025-12-31"), house)
         self.assertEqual(at_end.adjust(date(2025, 12, 31), Convention.FOLLOWING), date(2026, 1, 5))
         self.refused("CALENDAR", h.DeskCalendar, 0, days("2025-12-25"), days("2025-12-26", "2025-12-25"))
+
+    def test_a_desk_and_the_house_as_one_calendar(self) -> None:
+        house = days("2025-12-25", "2025-12-26", "2026-01-01", "2026-01-02")
+        calendar = h.DeskCalendar(h.WEEKENDS, days("2025-12-25"), house)
+        one = calendar.combined()
+        self.assertEqual((one.mask, one.closed), (h.WEEKENDS, tuple(days("2025-12-25", "2026-01-01", "2026-01-02"))))
+        for back in range(40):
+            day = date(2026, 1, 10) - timedelta(back)
+            self.assertEqual(one.adjust(day, Convention.FOLLOWING), calendar.adjust(day, Convention.FOLLOWING))
+        self.assertEqual(one.advance(date(2025, 12, 24), 2, Unit.DAYS), date(2025, 12, 29))
+        self.assertEqual(h.DeskCalendar(0, (), house).combined().closed, tuple(house))
+        self.assertEqual(h.DeskCalendar(0, house).combined(4).closed, tuple(house))
+        at_end = h.DeskCalendar(0, days("2025-12-31"), days("2024-12-31", "2025-01-01", "2025-12-30", "2026-01-01"))
+        self.assertEqual(at_end.combined().closed, tuple(days("2024-12-31", "2025-12-31", "2026-01-01")))
+        self.refused("ROOM", calendar.combined, 2)
+        self.refused("ROOM", calendar.combined, -1)
+        many = [date(1901, 1, 1) + timedelta(at) for at in range(4096)]
+        self.assertEqual(len(h.DeskCalendar(0, many[365:], many[:365]).combined().closed), 4096)
+        self.assertEqual(len(h.DeskCalendar(0, many[366:], many[:366]).combined().closed), 4095)
+        self.assertEqual(len(h.DeskCalendar(0, many, many).combined().closed), 4096)
+        over = h.DeskCalendar(0, many, days("2025-12-25"))
+        self.refused("FULL", over.combined)
+        self.refused("FULL", over.combined, 0)
 
     def test_a_calendar_that_breaks_its_rule_is_refused(self) -> None:
         self.refused("CALENDAR", h.Calendar, 127)

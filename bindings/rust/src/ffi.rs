@@ -91,6 +91,14 @@ extern "C" {
         house: *const u32,
         house_len: usize,
     ) -> i64;
+    pub fn heronspan_desk_combine(
+        desk: *const u32,
+        desk_len: usize,
+        house: *const u32,
+        house_len: usize,
+        closed: *mut u32,
+        closed_len: usize,
+    ) -> i64;
     pub fn heronspan_is_imm_date(day: u32, main: u8) -> i64;
     pub fn heronspan_is_imm_code(code: *const u8, code_len: usize, main: u8) -> i64;
     pub fn heronspan_imm_code(day: u32) -> i64;

@@ -458,6 +458,30 @@ impl<'a> DeskCalendar<'a> {
             )
         })
     }
+
+    /// The two lists as one over the start of `closed`, and that part of it: the desk's dates, and the house's whose year has none of the
+    /// desk's. `Full` where these are more than 4,096, `Room` where `closed` is shorter; a refusal leaves it as it was.
+    pub fn combine_into<'b>(&self, closed: &'b mut [Date]) -> Answer<&'b [Date]> {
+        let (desk, house) = (self.desk, self.house);
+        let count = told(unsafe {
+            ffi::heronspan_desk_combine(
+                desk.as_ptr().cast(),
+                desk.len(),
+                house.as_ptr().cast(),
+                house.len(),
+                closed.as_mut_ptr().cast(),
+                closed.len(),
+            )
+        })?;
+        Ok(&closed[..count as usize])
+    }
+
+    /// One calendar in place of the two lists, in which the same days are open.
+    pub fn combined(&self) -> Answer<Calendar> {
+        let mut closed = [Date::NONE; Request::MOST];
+        let dates = self.combine_into(&mut closed)?;
+        Calendar::new(self.mask, dates)
+    }
 }
 
 /// IMM dates and codes. `main` limits them to the main cycle: March, June, September and December.

@@ -97,6 +97,29 @@ fn a_desk_over_the_house() {
 }
 
 #[test]
+fn a_desk_and_the_house_as_one_calendar() {
+    let house = [day(2025, 12, 25), day(2025, 12, 26), day(2026, 1, 1), day(2026, 1, 2)];
+    let desk = [day(2025, 12, 25)];
+    let calendar = DeskCalendar::new(Calendar::WEEKENDS, &desk, &house).unwrap();
+    let mut closed = [Date(7); 5];
+    assert_eq!(calendar.combine_into(&mut closed), Ok(&[house[0], house[2], house[3]][..]));
+    assert_eq!(closed, [house[0], house[2], house[3], Date(7), Date(7)]);
+    let mut short = [Date(7); 2];
+    assert_eq!(calendar.combine_into(&mut short), Err(Refusal::Room));
+    assert_eq!(short, [Date(7); 2]);
+    let one = calendar.combined().unwrap();
+    assert_eq!(one, Calendar::new(Calendar::WEEKENDS, &[house[0], house[2], house[3]]).unwrap());
+    for back in 0..40 {
+        let date = Date(day(2026, 1, 10).0 - back);
+        assert_eq!(one.adjust(date, Convention::Following), calendar.adjust(date, Convention::Following));
+    }
+    let many: Vec<Date> = (0..4096).map(|at| Date(day(1901, 1, 1).0 + at)).collect();
+    let over = DeskCalendar::new(0, &many, &desk).unwrap();
+    assert_eq!((over.combined(), over.combine_into(&mut short)), (Err(Refusal::Full), Err(Refusal::Full)));
+    assert_eq!(short, [Date(7); 2]);
+}
+
+#[test]
 fn imm_dates_and_codes() {
     assert_eq!(imm::is_date(day(2025, 4, 16), true), Ok(false));
     assert_eq!(imm::is_date(day(2025, 4, 16), false), Ok(true));

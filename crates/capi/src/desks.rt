@@ -4,7 +4,7 @@ ghost use lib.ListN.{length};
 ghost use Rattle.refusal.specs.Answer.{then};
 ghost use Rattle.crossing.specs.Answers.{oneNumber, itself, done};
 ghost use Rattle.crossing.specs.Numbers.{conventionOf};
-ghost use Rattle.desk.specs.Desk.{entriesIn, runOf, askedOf, adjustOverOf};
+ghost use Rattle.desk.specs.Desk.{entriesIn, runOf, askedOf, adjustOverOf, combined, combineOf, lentAfter};
 ghost use Rattle.desk.specs.Runs.{countOf, Written};
 use crossing::NamedConvention;
 use crossing::answers;
@@ -53,4 +53,12 @@ pub extern "C" fn heronspan_desk_adjust<'a>(
         )),
         NamedConvention::Refused(n) => answers::minus(n),
     }
+}
+
+// The combined list over the start of a lent list, and how many entries it has.
+#[no_mangle]
+pub extern "C" fn heronspan_desk_combine(desk: &[u32], house: &[u32], closed: &mut [u32]) -> i64
+    ensures { λ r. ⌜ (r ≡ oneNumber itself (combineOf (now (desk .entry)) (now (house .entry)) (length (now (closed .entry))))) × (now (closed .exit) ≡ lentAfter (combineOf (now (desk .entry)) (now (house .entry)) (length (now (closed .entry)))) (combined (now (desk .entry)) (now (house .entry))) (now (closed .entry))) ⌝ }
+{
+    answers::of_numbered(desk::combine(desk, house, closed))
 }

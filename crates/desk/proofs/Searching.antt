@@ -6,7 +6,7 @@ use mathlib.Core.Bool.{Bool, true, false, not, _&&_}
 use mathlib.Core.List.{List}
 use native.Mathlib.Omega.{arith}
 use lib.Dec.{eqb, leb}
-use borrow.Author.Tests.{leb-true, leb-false, le-leb, eq-eqb, ne-eqb, not-true, not-false}
+use borrow.Author.Tests.{leb-true, leb-false, le-leb, eq-eqb, ne-eqb, not-false}
 use Rattle.refusal.specs.Answer.{Answer, given, refused, need, then, BOOK}
 use Rattle.refusal.specs.Laws.Answers.{holds, both, then-given, then-refused}
 use Rattle.date.specs.declared.Fields.{Fields}
@@ -218,14 +218,9 @@ module _ (mask : ℕ) (desk house : List ℕ) where
   unfolding calendarsOk calendarOk
   all-shut e = sym (rw (eq-eqb (mask % 128) 127 e) refl)
 
-  module _ (m : mask % 128 ≡ 127 → ⊥) (t : Bool) (p : t ≡ closedOk desk) where
-    pub desk-broken : not t ≡ true → false ≡ calendarsOk mask desk house
-    unfolding calendarsOk calendarOk
-    desk-broken e = sym (rw (ne-eqb (mask % 128) 127 m, sym p ∙ not-true t e) refl)
-
-    pub house-decides : not t ≡ false → (r : Bool) → r ≡ closedOk house → r ≡ calendarsOk mask desk house
-    unfolding calendarsOk calendarOk
-    house-decides e r q = rw (ne-eqb (mask % 128) 127 m, sym p ∙ not-false t e) q
+  pub lists-decide : (mask % 128 ≡ 127 → ⊥) → (t : Bool) → t ≡ (closedOk desk && closedOk house) → t ≡ calendarsOk mask desk house
+  unfolding calendarsOk calendarOk
+  lists-decide l t p = p ∙ sym (rw (ne-eqb (mask % 128) 127 l) refl)
 
   module _ (t : Bool) (p : t ≡ calendarsOk mask desk house) (e : not t ≡ false) where
     both-ok : (calendarOk mask desk ≡ true) × (closedOk house ≡ true)

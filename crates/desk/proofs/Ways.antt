@@ -27,6 +27,14 @@ use Rattle.desk.specs.Runs.{dayOr, PartOf, pickL, chosen, standing, Stan
 use Rattle.desk.specs.Laws.Entries.{one-part}
 use Rattle.desk.specs.Laws.Years.{year-from, year-to, make-first, make-last, year-is, year-earlier, year-later, year-some, last-in}
 
+-- ---- both lists
+module _ (desk house : List ℕ) (t : Bool) (p : t ≡ closedOk desk) where
+  pub desk-broken : not t ≡ true → false ≡ (closedOk desk && closedOk house)
+  desk-broken e = rw (sym p ∙ not-true t e) refl
+
+  pub house-decides : not t ≡ false → (r : Bool) → r ≡ closedOk house → r ≡ (closedOk desk && closedOk house)
+  house-decides e r q = rw (sym p ∙ not-false t e) q
+
 -- ---- the question
 module _ (desk house : List ℕ) (year : ℕ) where
   pub no-desk : (t : Bool) → t ≡ closedOk desk → not t ≡ true → refused CALENDAR ≡ askedOf desk house year

@@ -2,9 +2,11 @@
 -- Assumes nothing.
 use Prim.Native.Nat.{ℕ}
 use mathlib.Core.Bool.{Bool, true, false, _&&_}
-use mathlib.Core.List.{List, [], _∷_}
+use mathlib.Core.Path.{_≡_}
+use mathlib.Core.List.{List, [], _∷_, _++_}
 use lib.Dec.{eqb, leb, ltb}
-use Rattle.refusal.specs.Answer.{Answer, given, refused, need, BOOK, CALENDAR}
+use lib.ListN.{length, drop}
+use Rattle.refusal.specs.Answer.{Answer, given, refused, need, BOOK, CALENDAR, ROOM, FULL}
 use Rattle.date.specs.Civil.{fieldsOf}
 use Rattle.date.specs.Date.{inBook}
 use Rattle.calendar.specs.declared.Convention.{Convention}
@@ -83,3 +85,19 @@ putIf false day list = list
 unfoldable pub combined : (desk house : List ℕ) → List ℕ
 combined desk [] = desk
 combined desk (x ∷ xs) = putIf (leftTo desk x) x (combined desk xs)
+
+-- ---- the combined list in a lent list: 3 for either list, then 23 for more than 4,096 entries, then 14 where the lent list is shorter
+unfoldable pub combineOf : (desk house : List ℕ) (room : ℕ) → Answer ℕ
+combineOf desk house room =
+    need CALENDAR (closedOk desk && closedOk house)
+    (need FULL (leb (length (combined desk house)) 4096)
+    (need ROOM (leb (length (combined desk house)) room) (given (length (combined desk house)))))
+
+-- its entries over the start of the lent list, later places as before; a refusal leaves all of it as it was
+unfoldable pub lentAfter : Answer ℕ → (list lent : List ℕ) → List ℕ
+lentAfter (given n) list lent = list ++ drop n lent
+lentAfter (refused n) list lent = lent
+
+pub record Combines (desk house : List ℕ) (r : Answer ℕ) (lent lent′ : List ℕ) : Type 0 where
+  pub says : r ≡ combineOf desk house (length lent)
+  pub writes : lent′ ≡ lentAfter (combineOf desk house (length lent)) (combined desk house) lent

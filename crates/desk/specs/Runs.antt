@@ -3,15 +3,15 @@
 use Prim.Native.Nat.{ℕ, _+_, _-_, _≤_, _<_}
 use mathlib.Core.Path.{_≡_}
 use mathlib.Core.Bool.{Bool, true, false}
-use mathlib.Core.List.{List, [], _∷_}
+use mathlib.Core.List.{List, [], _∷_, _++_}
 use lib.Dec.{eqb, leb}
 use lib.ListN.{length, take, drop, set}
-use Rattle.refusal.specs.Answer.{Answer, given, refused, need, then, ROOM}
+use Rattle.refusal.specs.Answer.{Answer, given, refused, need, then, ROOM, FULL}
 use Rattle.date.specs.Date.{step}
-use Rattle.calendar.specs.Calendar.{sound}
+use Rattle.calendar.specs.Calendar.{Sound, sound}
 use Rattle.desk.specs.declared.Told.{Told}
 use Rattle.desk.specs.declared.Told.the-variants as told-is
-use Rattle.desk.specs.Desk.{yearOf, entriesIn, runOf, askedOf}
+use Rattle.desk.specs.Desk.{yearOf, entriesIn, runOf, askedOf, combined}
 
 unfoldable pub dayOr : Answer ℕ → ℕ
 dayOr (given day) = day
@@ -76,3 +76,15 @@ pub record PlaceTold (desk house : List ℕ) (year : ℕ) (r : Answer ℕ) (lent
 -- so many days from a day, on or back, lie in a year
 pub record Within (back : Bool) (day tries year : ℕ) : Type 0 where
   pub in-it : (k : ℕ) → k < tries → yearOf (step back day k) ≡ year
+
+-- ---- a turn of the merge: the house's entries before the desk's first year, the desk's in it and none of the house's, then the rest of both
+pub record Turns (desk house : List ℕ) (front own next : ℕ) : Type 0 where
+  pub some : 0 < own
+  pub in-desk : own ≤ length desk
+  pub order : front ≤ next
+  pub in-house : next ≤ length house
+  pub same : combined desk house ≡ take front house ++ (take own desk ++ combined (drop own desk) (drop next house))
+
+-- so many entries in so much room: 23 for more than 4,096, then 14
+unfoldable pub roomFor : (n room : ℕ) → Answer Sound
+roomFor n room = need FULL (leb n 4096) (need ROOM (leb n room) (given sound))

@@ -4,14 +4,14 @@ use Prim.Native.Nat.{ℕ, zero, suc, _+_}
 use mathlib.Core.Path.{_≡_, refl}
 use mathlib.Core.Bool.{Bool, true, false}
 use mathlib.Core.List.{List, [], _∷_}
-use Rattle.refusal.specs.Answer.{Answer, given, refused, need, then, BOOK, CALENDAR, CLOSED}
+use Rattle.refusal.specs.Answer.{Answer, given, refused, need, then, BOOK, CALENDAR, CLOSED, ROOM}
 use Rattle.date.specs.Civil.{leap, rowOf, monthLength, gone, sumTo, dayNumber, guess, yearsGone, monthIn, dayIn, placeOf, fieldsAt}
 use Rattle.date.specs.Date.{inBook, withinSpan, monthIndex, step}
 use Rattle.calendar.specs.declared.Convention.the-variants.{Unadjusted, Following, ModifiedFollowing, Preceding, ModifiedPreceding}
 use Rattle.calendar.specs.Open.{weeklyClosed, member, isOpen, ascending, closedOk, calendarOk}
 use Rattle.calendar.specs.Calendar.{Sound, sound}
 use Rattle.calendar.specs.AnyCalendar.{inSpan, sameMonth, takenOr, unlessLeft, firstOpen, found, modified, byConvention, adjusted}
-use Rattle.desk.specs.Desk.{yearOf, kept, entriesIn, orElse, runOf, inYears, askedOf, handedOver, lookupOf, opensOver, calendarsOk, adjustOverOf, hasNone, leftTo, before, put, putIf, combined}
+use Rattle.desk.specs.Desk.{yearOf, kept, entriesIn, orElse, runOf, inYears, askedOf, handedOver, lookupOf, opensOver, calendarsOk, adjustOverOf, hasNone, leftTo, before, put, putIf, combined, combineOf, lentAfter}
 
 unfoldable asked : Answer Sound → ℕ
 asked (given sound) = 0
@@ -105,3 +105,55 @@ answers-are =
 worked-answers : answers ≡ answers-are
 unfolding need then leap rowOf gone sumTo dayNumber guess yearsGone monthIn dayIn placeOf fieldsAt inBook withinSpan monthIndex step weeklyClosed member isOpen ascending closedOk calendarOk inSpan sameMonth takenOr unlessLeft firstOpen found modified byConvention adjusted yearOf kept entriesIn orElse runOf opensOver calendarsOk adjustOverOf days
 worked-answers = refl
+
+-- ---- the combined list in a lent list of so many places, which hold their own numbers from 1 on
+abbrev told : (desk house : List ℕ) (room : ℕ) → Answer ℕ
+told desk house room = combineOf desk house room
+
+abbrev left : (desk house : List ℕ) (room : ℕ) → List ℕ
+left desk house room = lentAfter (combineOf desk house room) (combined desk house) (days room 1)
+
+abbrev counts : List (Answer ℕ)
+counts =
+    told (christmas ∷ []) house 5 ∷
+    told (christmas ∷ []) house 3 ∷
+    told (christmas ∷ []) house 2 ∷
+    told [] house 4 ∷
+    told house [] 4 ∷
+    told [] [] 0 ∷
+    told (5 ∷ []) house 0 ∷
+    told [] (5 ∷ []) 0 ∷
+    []
+
+worked-counts : counts ≡ given 3 ∷ given 3 ∷ refused ROOM ∷ given 4 ∷ given 4 ∷ given 0 ∷ refused CALENDAR ∷ refused CALENDAR ∷ []
+unfolding need leap rowOf gone sumTo dayNumber guess yearsGone monthIn dayIn placeOf fieldsAt ascending closedOk yearOf kept entriesIn hasNone leftTo before put putIf combined combineOf
+worked-counts = refl
+
+-- the last two: entries on both sides of a year's end
+abbrev lists : List (List ℕ)
+lists =
+    left (christmas ∷ []) house 5 ∷
+    left (christmas ∷ []) house 2 ∷
+    left [] (5 ∷ []) 2 ∷
+    left [] house 4 ∷
+    left (dayNumber 2025 12 28 ∷ []) house 4 ∷
+    left (dayNumber 2026 1 2 ∷ []) house 3 ∷
+    left (dayNumber 2025 12 31 ∷ []) (dayNumber 2024 12 31 ∷ dayNumber 2025 1 1 ∷ dayNumber 2025 12 30 ∷ dayNumber 2026 1 1 ∷ []) 3 ∷
+    left (dayNumber 2025 1 1 ∷ []) (dayNumber 2024 12 31 ∷ dayNumber 2025 12 31 ∷ dayNumber 2026 1 1 ∷ []) 3 ∷
+    []
+
+abbrev lists-are : List (List ℕ)
+lists-are =
+    (christmas ∷ dayNumber 2026 1 1 ∷ dayNumber 2026 1 2 ∷ 4 ∷ 5 ∷ []) ∷
+    (1 ∷ 2 ∷ []) ∷
+    (1 ∷ 2 ∷ []) ∷
+    house ∷
+    (dayNumber 2025 12 28 ∷ dayNumber 2026 1 1 ∷ dayNumber 2026 1 2 ∷ 4 ∷ []) ∷
+    (christmas ∷ dayNumber 2025 12 26 ∷ dayNumber 2026 1 2 ∷ []) ∷
+    (dayNumber 2024 12 31 ∷ dayNumber 2025 12 31 ∷ dayNumber 2026 1 1 ∷ []) ∷
+    (dayNumber 2024 12 31 ∷ dayNumber 2025 1 1 ∷ dayNumber 2026 1 1 ∷ []) ∷
+    []
+
+worked-lists : lists ≡ lists-are
+unfolding need leap rowOf gone sumTo dayNumber guess yearsGone monthIn dayIn placeOf fieldsAt ascending closedOk yearOf kept entriesIn hasNone leftTo before put putIf combined combineOf lentAfter days
+worked-lists = refl

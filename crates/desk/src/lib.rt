@@ -1,10 +1,10 @@
 // A desk's closed dates over the house's: for each year the desk's if it has any there, otherwise the house's.
 ghost use mathlib.Core.Path.{_≡_};
-ghost use mathlib.Core.Bool.{true};
+ghost use mathlib.Core.Bool.{true, _&&_};
 ghost use Rattle.date.specs.Date.{dated, numbered};
 ghost use Rattle.calendar.specs.Open.{closedOk};
 ghost use Rattle.calendar.specs.Calendar.{checked};
-ghost use Rattle.desk.specs.Desk.{inYears, askedOf, lookupOf, calendarsOk, adjustOverOf};
+ghost use Rattle.desk.specs.Desk.{inYears, askedOf, lookupOf, calendarsOk, adjustOverOf, Combines};
 ghost use Rattle.desk.specs.Runs.{Tells, PlaceTold};
 use calendar::Checked;
 use calendar::Convention;
@@ -19,6 +19,8 @@ mod runs;
 mod years;
 // The search over both lists, and the conventions.
 mod adjusting;
+// The two lists as one.
+mod merging;
 // Where a run stands: in no list (0), the desk's (1) or the house's (2), from which place, and how many entries.
 pub struct Found {
     pub list: u8,
@@ -99,16 +101,22 @@ pub fn run<'a>(desk: &'a [u32], house: &'a [u32], year: u32) -> &'a [u32]
     }
 }
 
+fn keep_rules(desk: &[u32], house: &[u32]) -> bool
+    ensures { λ r. ⌜ r ≡ (closedOk (now (desk .entry)) && closedOk (now (house .entry))) ⌝ }
+{
+    if !closed_dates::keep_rule(desk) {
+        return false;
+    }
+    closed_dates::keep_rule(house)
+}
+
 fn is_sound(mask: u8, desk: &[u32], house: &[u32]) -> bool
     ensures { λ r. ⌜ r ≡ calendarsOk mask (now (desk .entry)) (now (house .entry)) ⌝ }
 {
     if mask % 128 == 127 {
         return false;
     }
-    if !closed_dates::keep_rule(desk) {
-        return false;
-    }
-    closed_dates::keep_rule(house)
+    keep_rules(desk, house)
 }
 
 // The adjusted date, each day that is tried open or closed by the run of its own year.
@@ -129,4 +137,19 @@ pub fn adjust<'a>(
         return Dated::Refused(refusal::CALENDAR);
     }
     adjusting::by_convention(day, convention, mask, desk, house)
+}
+
+// The combined list over the start of a lent list, and how many entries it has: 3 for either list, 23 where it has more than 4,096 entries, 14
+// where the lent list is shorter. A refusal leaves the lent list as it was.
+pub fn combine(desk: &[u32], house: &[u32], out: &mut [u32]) -> Numbered
+    ensures { λ r. ⌜ Combines (now (desk .entry)) (now (house .entry)) (numbered r) (now (out .entry)) (now (out .exit)) ⌝ }
+{
+    if !keep_rules(desk, house) {
+        return Numbered::Refused(refusal::CALENDAR);
+    }
+    let room = merging::room_for(desk, house, out.len());
+    match room {
+        Checked::Sound => Numbered::Number(merging::write(desk, house, out) as u32),
+        Checked::Refused(n) => Numbered::Refused(n),
+    }
 }

@@ -10,7 +10,7 @@ use lib.Dec.{eqb, leb, ltb}
 use lib.ListN.{length}
 use mathlib.Core.Logic.{⊎-elim}
 use native.Mathlib.Nat.{eq-or-lt-of-le}
-use borrow.Author.Tests.{leb-true, le-leb, ltb-true, ltb-false, ne-eqb, eqb-false}
+use borrow.Author.Tests.{leb-true, le-leb, ltb-true, ltb-false, eqb-false}
 use Rattle.refusal.specs.Answer.{Answer, need, BOOK, CALENDAR}
 use Rattle.refusal.specs.Laws.Answers.{both}
 use Rattle.date.specs.Date.{SPAN-FIRST, SPAN-LAST, inBook}
@@ -19,46 +19,20 @@ use Rattle.calendar.specs.Open.{member, isOpen, ascending, closedOk, calendarOk
 use Rattle.calendar.specs.Calendar.{adjustOf}
 use Rattle.calendar.specs.AnyCalendar.{adjusted}
 use Rattle.desk.specs.Desk.{yearOf, entriesIn, opensOver, calendarsOk, adjustOverOf, hasNone, leftTo, before, put, putIf, combined}
+use Rattle.desk.specs.Laws.Ascending.{asc, cons, empty, early}
 use Rattle.desk.specs.Laws.Entries.{own-year, none-member}
 use Rattle.desk.specs.Laws.Over.{combined-member, adjusted-combined}
 
 module _ (high : ℕ) where
-  asc : (low x : ℕ) (xs : List ℕ) → ascending low high (x ∷ xs) ≡ true → (leb low x ≡ true) × (leb x high ≡ true) × (ascending (x + 1) high xs ≡ true)
-  unfolding ascending
-  asc low x xs e =
-      let p = both (leb low x) (leb x high && ascending (x + 1) high xs) e in
-      let q = both (leb x high) (ascending (x + 1) high xs) (p .1) in
-      (p .0, q .0, q .1)
-
-  cons : (low x : ℕ) (xs : List ℕ) → leb low x ≡ true → leb x high ≡ true → ascending (x + 1) high xs ≡ true → ascending low high (x ∷ xs) ≡ true
-  unfolding ascending
-  cons low x xs l h r = rw (l, h) r
-
-  empty : (low : ℕ) → ascending low high [] ≡ true
-  unfolding ascending
-  empty low = refl
-
-  -- a list that begins later holds none before it
-  early : (low day : ℕ) (xs : List ℕ) → ascending low high xs ≡ true → day < low → member day xs ≡ false
-  unfolding member
-  early low day [] e h = refl
-  early low day (x ∷ xs) e h =
-      let a = asc low x xs e in
-      let q : eqb x day ≡ false = other x day (omega (arith, leb-true low x (a .0))) in
-      rw q (early (x + 1) day xs (a .2) (omega (arith, leb-true low x (a .0))))
-    where
-      other : (x day : ℕ) → day < x → eqb x day ≡ false
-      other x day l = ne-eqb x day (λ p. let bad : ⊥ = omega arith in bad)
-
   put-by : (b : Bool) (low x y : ℕ) (ys : List ℕ) → ltb x y ≡ b → leb low x ≡ true → leb x high ≡ true → ascending low high (y ∷ ys) ≡ true → (eqb y x || member x ys) ≡ false → (y + 1 ≤ x → member x ys ≡ false → ascending (y + 1) high (put x ys) ≡ true) → ascending low high (before b x y ys (put x ys)) ≡ true
   unfolding before
   put-by true low x y ys b l h e m f =
-      let a = asc low y ys e in
-      cons low x (y ∷ ys) l h (cons (x + 1) y ys (le-leb (x + 1) y (omega (arith, ltb-true x y b))) (a .1) (a .2))
+      let a = asc high low y ys e in
+      cons high low x (y ∷ ys) l h (cons high (x + 1) y ys (le-leb (x + 1) y (omega (arith, ltb-true x y b))) (a .1) (a .2))
   put-by false low x y ys b l h e m f =
-      let a = asc low y ys e in
+      let a = asc high low y ys e in
       let n = neither (eqb y x) (member x ys) m in
-      cons low y (put x ys) (a .0) (a .1) (f (after x y (ltb-false x y b) (eqb-false y x (n .0))) (n .1))
+      cons high low y (put x ys) (a .0) (a .1) (f (after x y (ltb-false x y b) (eqb-false y x (n .0))) (n .1))
     where
       neither : (a b : Bool) → (a || b) ≡ false → (a ≡ false) × (b ≡ false)
       neither true b e = absurd (false≢true (sym e))
@@ -69,9 +43,9 @@ module _ (high : ℕ) where
 
   put-ascends : (low x : ℕ) (xs : List ℕ) → leb low x ≡ true → leb x high ≡ true → ascending low high xs ≡ true → member x xs ≡ false → ascending low high (put x xs) ≡ true
   unfolding put member
-  put-ascends low x [] l h e m = cons low x [] l h (empty (x + 1))
+  put-ascends low x [] l h e m = cons high low x [] l h (empty high (x + 1))
   put-ascends low x (y ∷ ys) l h e m =
-      put-by (ltb x y) low x y ys refl l h e m (λ g n. put-ascends (y + 1) x ys (le-leb (y + 1) x g) h (asc low y ys e .2) n)
+      put-by (ltb x y) low x y ys refl l h e m (λ g n. put-ascends (y + 1) x ys (le-leb (y + 1) x g) h (asc high low y ys e .2) n)
 
 -- ---- a house's entry that is left to it is on no list yet
 left-out : (desk : List ℕ) (x : ℕ) → leftTo desk x ≡ true → member x desk ≡ false
@@ -94,7 +68,7 @@ module _ (desk : List ℕ) (low high : ℕ) (d : ascending low high desk ≡ tru
       if-ascends (leftTo desk x) x xs (combined desk xs) refl (le-leb low x (omega (arith, leb-true from x (a .0)))) (a .1) (combined-member x desk xs) (early high (x + 1) x xs (a .2) (omega arith)) (combined-ascends (x + 1) xs (omega (arith, leb-true from x (a .0))) (a .2))
 
 -- ---- the combined list keeps its rule exactly if it has at most 4,096 entries
-ok-ascends : (list : List ℕ) → closedOk list ≡ true → ascending SPAN-FIRST SPAN-LAST list ≡ true
+pub ok-ascends : (list : List ℕ) → closedOk list ≡ true → ascending SPAN-FIRST SPAN-LAST list ≡ true
 unfolding closedOk
 ok-ascends list ok = both (leb (length list) 4096) (ascending SPAN-FIRST SPAN-LAST list) ok .1
 
@@ -107,7 +81,7 @@ combined-ok desk house p q =
     by true = refl
     by false = refl
 
-sound-alike : (mask : ℕ) (desk house : List ℕ) → closedOk desk ≡ true → closedOk house ≡ true → closedOk (combined desk house) ≡ true → calendarsOk mask desk house ≡ calendarOk mask (combined desk house)
+pub sound-alike : (mask : ℕ) (desk house : List ℕ) → closedOk desk ≡ true → closedOk house ≡ true → closedOk (combined desk house) ≡ true → calendarsOk mask desk house ≡ calendarOk mask (combined desk house)
 unfolding calendarsOk calendarOk
 sound-alike mask desk house p q r = rw (p, q, r) (by (not (eqb (mask % 128) 127)))
   where

@@ -43,7 +43,7 @@ unfolding hasNone member
 none-member day [] e = refl
 none-member day (x ∷ xs) e = absurd (false≢true e)
 
-or-else : (b : Bool) (day : ℕ) (xs ys : List ℕ) → hasNone xs ≡ b → member day (orElse xs ys) ≡ (member day xs || (member day ys && b))
+pub or-else : (b : Bool) (day : ℕ) (xs ys : List ℕ) → hasNone xs ≡ b → member day (orElse xs ys) ≡ (member day xs || (member day ys && b))
 unfolding hasNone orElse member
 or-else true day [] ys e = by (member day ys)
   where
@@ -72,7 +72,7 @@ unfoldable inIt : ℕ → ℕ → Bool
 inIt year x = eqb (yearOf x) year
 
 module _ (year : ℕ) where
-  nothing : (xs : List ℕ) → ((k : ℕ) → k < length xs → eqb (yearOf (getD xs k 0)) year ≡ false) → entriesIn year xs ≡ []
+  pub nothing : (xs : List ℕ) → ((k : ℕ) → k < length xs → eqb (yearOf (getD xs k 0)) year ≡ false) → entriesIn year xs ≡ []
   unfolding entriesIn kept
   nothing [] f = refl
   nothing (x ∷ xs) f = rw (f 0 (omega arith)) (nothing xs (λ k h. f (suc k) (omega arith)))

@@ -14,16 +14,8 @@ use Rattle.calendar.specs.Open.{ascending, closedOk, isOpen}
 use Rattle.calendar.specs.AnyCalendar.{firstOpen}
 use Rattle.desk.specs.Desk.{yearOf, kept, entriesIn, orElse, runOf, opensOver}
 use Rattle.desk.specs.Runs.{Within}
+use Rattle.desk.specs.Laws.Ascending.{lower}
 use Rattle.desk.specs.Laws.Cut.{alike}
-
--- a lower bound may be lowered
-lower : (low from high : ℕ) (xs : List ℕ) → low ≤ from → ascending from high xs ≡ true → ascending low high xs ≡ true
-unfolding ascending
-lower low from high [] l e = refl
-lower low from high (x ∷ xs) l e =
-    let p = both (leb from x) (leb x high && ascending (x + 1) high xs) e in
-    let q : leb low x ≡ true = le-leb low x (omega (arith, leb-true from x (p .0))) in
-    rw q (p .1)
 
 few-kept : (b : Bool) (x n : ℕ) (xs : List ℕ) → length xs ≤ n → length (kept b x xs) ≤ suc n
 unfolding kept

@@ -6,7 +6,7 @@ use mathlib.Core.Bool.{Bool, true, false}
 use native.Mathlib.Omega.{arith}
 use lib.Dec.{leb}
 use lib.ListN.{getD}
-use borrow.Author.Tests.{leb-true}
+use borrow.Author.Tests.{leb-true, leb-false, le-leb}
 use Rattle.refusal.specs.Answer.{given, need, BOOK}
 use Rattle.refusal.specs.Laws.Answers.{both}
 use Rattle.date.specs.Civil.{pickN, leap, rowOf, monthLength, gone, sumTo, dayNumber, yearsGone, fieldsAt}
@@ -113,3 +113,76 @@ year-long y = by (leap y)
 pub first-in : (y : ℕ) → inYears y ≡ true → SPAN-FIRST ≤ dayNumber y 1 1
 unfolding gone
 first-in y e = let g = gone-le 1799 (y - 1) (omega (arith, year-from y e)) in omega (arith, first-gone y)
+
+-- ---- years do not fall as days go on
+pub year-mono : (x d : ℕ) → x ≤ d → yearOf x ≤ yearOf d
+unfolding yearOf fieldsAt
+year-mono x d h = by (leb (yearsGone (x - 1)) (yearsGone (d - 1))) refl
+  where
+    by : (b : Bool) → leb (yearsGone (x - 1)) (yearsGone (d - 1)) ≡ b → yearsGone (x - 1) + 1 ≤ yearsGone (d - 1) + 1
+    by true e = omega (arith, leb-true (yearsGone (x - 1)) (yearsGone (d - 1)) e)
+    by false e =
+        let l = leb-false (yearsGone (x - 1)) (yearsGone (d - 1)) e in
+        let g = gone-le (yearsGone (d - 1) + 1) (yearsGone (x - 1)) (omega arith) in
+        let bad : ⊥ = omega (arith, years-low (x - 1), years-high (d - 1)) in
+        absurd bad
+
+pub earlier-year : (x d : ℕ) → yearOf x < yearOf d → x < d
+earlier-year x d h = by (leb d x) refl
+  where
+    by : (b : Bool) → leb d x ≡ b → x < d
+    by true e = let bad : ⊥ = omega (arith, year-mono d x (leb-true d x e)) in absurd bad
+    by false e = leb-false d x e
+
+module _ (y x : ℕ) (one : 1 ≤ y) (some : 1 ≤ x) where
+  pub year-below : x < dayNumber y 1 1 → yearOf x < y
+  year-below h =
+      let f = dayNumber y 1 1 in
+      let is : yearOf f ≡ y = year-is y f one (omega arith) (omega arith) (year-some y one) in
+      let m = year-mono x f (omega arith) in
+      by (leb y (yearOf x)) refl is m
+    where
+      by : (b : Bool) → leb y (yearOf x) ≡ b → yearOf (dayNumber y 1 1) ≡ y → yearOf x ≤ yearOf (dayNumber y 1 1) → yearOf x < y
+      by true e is m = absurd (year-earlier y x one some h (omega (arith, leb-true y (yearOf x) e)))
+      by false e is m = leb-false y (yearOf x) e
+
+  pub year-above : dayNumber y 12 31 < x → y < yearOf x
+  year-above h =
+      let f = dayNumber y 12 31 in
+      let is : yearOf f ≡ y = year-is y f one (omega (arith, first-gone y, year-some y one)) (year-some y one) (omega arith) in
+      let m = year-mono f x (omega arith) in
+      by (leb (yearOf x) y) refl is m
+    where
+      by : (b : Bool) → leb (yearOf x) y ≡ b → yearOf (dayNumber y 12 31) ≡ y → yearOf (dayNumber y 12 31) ≤ yearOf x → y < yearOf x
+      by true e is m = absurd (year-later y x one some h (omega (arith, leb-true (yearOf x) y e)))
+      by false e is m = leb-false (yearOf x) y e
+
+  pub year-start : y ≤ yearOf x → dayNumber y 1 1 ≤ x
+  year-start h = by (leb (dayNumber y 1 1) x) refl
+    where
+      by : (b : Bool) → leb (dayNumber y 1 1) x ≡ b → dayNumber y 1 1 ≤ x
+      by true e = leb-true (dayNumber y 1 1) x e
+      by false e = let bad : ⊥ = omega (arith, year-below (leb-false (dayNumber y 1 1) x e)) in absurd bad
+
+  pub year-end : yearOf x ≤ y → x ≤ dayNumber y 12 31
+  year-end h = by (leb x (dayNumber y 12 31)) refl
+    where
+      by : (b : Bool) → leb x (dayNumber y 12 31) ≡ b → x ≤ dayNumber y 12 31
+      by true e = leb-true x (dayNumber y 12 31) e
+      by false e = let bad : ⊥ = omega (arith, year-above (leb-false x (dayNumber y 12 31) e)) in absurd bad
+
+-- a day of the span lies in one of its years
+first-day : dayNumber 1800 1 1 ≡ SPAN-FIRST
+unfolding dayNumber sumTo rowOf gone leap
+first-day = refl
+
+last-day : dayNumber 2399 12 31 ≡ SPAN-LAST
+unfolding dayNumber sumTo rowOf gone leap
+last-day = refl
+
+pub span-year : (x : ℕ) → SPAN-FIRST ≤ x → x ≤ SPAN-LAST → inYears (yearOf x) ≡ true
+unfolding inYears
+span-year x l h =
+    let a : yearOf SPAN-FIRST ≡ 1800 = year-is 1800 SPAN-FIRST (omega arith) (omega arith) (omega (arith, first-day)) (omega (arith, first-day, year-long 1800)) in
+    let b : yearOf SPAN-LAST ≡ 2399 = year-is 2399 SPAN-LAST (omega arith) (omega arith) (omega (arith, last-day, year-long 2399)) (omega (arith, last-day)) in
+    rw (le-leb 1800 (yearOf x) (omega (arith, year-mono SPAN-FIRST x l)), le-leb (yearOf x) 2399 (omega (arith, year-mono x SPAN-LAST h))) refl
