@@ -8,8 +8,8 @@ use native.Mathlib.Omega.{arith}
 use borrow.Author.Needs.{needs}
 use borrow.Author.Tests.{lt-ltb, le-ltb, eq-eqb, ltb-true, eqb-true}
 use lib.Dec.{eqb, ltb}
-use lib.IntN.{ℤ, pos}
-use lib.ListN.{length, getD, take, drop, set}
+use lib.IntN.{ℤ, pos, negℤ}
+use lib.ListN.{length, getD, take, drop, set, replicate}
 use lib.Seq.{take-length}
 use lib.Signed.{mag}
 use mir.Syntax.{w64}
@@ -23,10 +23,10 @@ use Rattle.steps.specs.declared.Request.{Request}
 use Rattle.feeding.specs.declared.State.{State}
 use Rattle.feeding.specs.declared.Said.{Said}
 use Rattle.feeding.specs.declared.Said.the-variants.{More, Is}
-use Rattle.feeding.specs.Feed.{at, fresh, Feeds, Finishes, eaten, laid, settled}
+use Rattle.feeding.specs.Feed.{at, fresh, refusedBuffer, Feeds, Finishes, eaten, laid, settled}
 use Rattle.feeding.specs.Laws.Run.{goes-on, body-eaten, body-laid}
 use Rattle.fed.specs.Words.{sumOf, lessOf, withState, Put, placesIn, stateIn, newWords, withNumbers, goesOn, runsOf}
-use Rattle.fed.specs.Handed.{numbersOf, numberOf, decodedWords, saidWords, Renewed, Stepped, Fed, Ended}
+use Rattle.fed.specs.Handed.{numbersOf, decodedNumber, numberOf, decodedWords, saidWords, Renewed, Stepped, Fed, Ended}
 use Rattle.fed.proofs.WordWays.{sum-small, less-within}
 
 -- ---- the numbers of a request
@@ -50,9 +50,8 @@ module _ (x : List ℕ) where
 pub ruleset told = (words-found, words-refused, words-more, words-said, needs)
 
 -- ---- a reset
-pub renewed : {x x′ : List ℕ} → x′ ≡ newWords → Renewed x (pos 0) x′
-unfolding stateIn placesIn sumOf lessOf pick
-renewed e = record { answer = refl; state = ap stateIn e; words = e }
+pub renewed : {x y x′ : List ℕ} {s : State} → y ≡ replicate 46 0 → s ≡ fresh → Put s y x′ → Renewed x (pos 0) x′
+renewed none is p = record { answer = refl; state = p .state ∙ is; words = p .words ∙ (λ i. withState (is i) (none i)) }
 
 pub ruleset renewals = (renewed, needs)
 
@@ -61,19 +60,51 @@ words-after : (s′ : State) (y x′ z : List ℕ) → Put s′ y x′ → y ≡
 words-after s′ y x′ z p e = p .words ∙ (λ i. withState (sym (p .state) i) (e i))
 
 module _ {x buffer closed y x′ : List ℕ} {s s′ : State} {said : Said} {r : ℤ} where
-  pub stepped : {part buffer′ closed′ : List ℕ} → s ≡ stateIn x → Feeds s (take (length part - 0) (drop 0 part)) buffer closed said s′ buffer′ closed′
+  pub stepped : {part buffer′ closed′ : List ℕ} → 20000 ≤ length buffer → s ≡ stateIn x → Feeds s (take (length part - 0) (drop 0 part)) buffer closed said s′ buffer′ closed′
       → y ≡ saidWords said x → Put s′ y x′ → mag r < 9223372036854775808 → r ≡ numberOf said → Stepped x part buffer closed (toZ w64 (ofZ w64 r)) x′ buffer′ closed′
-  stepped {part} {buffer′} {closed′} is f numbers p m a =
+  stepped {part} {buffer′} {closed′} g is f numbers p m a =
       let n : length part - 0 ≡ length part = omega arith in
       let whole : take (length part - 0) part ≡ part = ap (λ (k : ℕ). take k part) n ∙ take-length part in
-      record { said = said; feeds = coe 0 1 (i. Feeds (is i) (whole i) buffer closed said (sym (p .state) i) buffer′ closed′) f; answer = handed r m a; words = words-after s′ y x′ (saidWords said x) p numbers }
+      record {
+        said = said;
+        feeds = coe 0 1 (i. Feeds (is i) (whole i) buffer closed said (sym (p .state) i) buffer′ closed′) f;
+        answer = handed r m a;
+        words = words-after s′ y x′ (saidWords said x) p numbers ∙ sym (left _ _ (le-ltb _ _ g));
+      }
 
-  pub ended : {closed′ : List ℕ} → s ≡ stateIn x → Finishes s buffer closed said s′ closed′
+  pub ended : {closed′ : List ℕ} → 20000 ≤ length buffer → s ≡ stateIn x → Finishes s buffer closed said s′ closed′
       → y ≡ saidWords said x → Put s′ y x′ → mag r < 9223372036854775808 → r ≡ numberOf said → Ended x buffer closed (toZ w64 (ofZ w64 r)) x′ closed′
-  ended {closed′} is f numbers p m a =
-      record { said = said; finishes = coe 0 1 (i. Finishes (is i) buffer closed said (sym (p .state) i) closed′) f; answer = handed r m a; words = words-after s′ y x′ (saidWords said x) p numbers }
+  ended {closed′} g is f numbers p m a =
+      record {
+        said = said;
+        finishes = coe 0 1 (i. Finishes (is i) buffer closed said (sym (p .state) i) closed′) f;
+        answer = handed r m a;
+        words = words-after s′ y x′ (saidWords said x) p numbers ∙ sym (left _ _ (le-ltb _ _ g));
+      }
 
-pub ruleset steps = (stepped, ended, needs)
+-- a buffer that is too short
+module _ {x buffer closed : List ℕ} {r : ℤ} (h : length buffer < 20000) (m : mag r < 9223372036854775808) (a : r ≡ negℤ (pos 18)) where
+  pub stepped-short : {part : List ℕ} → Stepped x part buffer closed (toZ w64 (ofZ w64 r)) x buffer closed
+  unfolding numberOf decodedNumber
+  stepped-short =
+      record {
+        said = refusedBuffer;
+        feeds = record { state = sym (taken _ _ (lt-ltb _ _ h)); answer = sym (taken _ _ (lt-ltb _ _ h)); bytes = sym (taken _ _ (lt-ltb _ _ h)); dates = sym (taken _ _ (lt-ltb _ _ h)) };
+        answer = handed r m a;
+        words = sym (taken _ _ (lt-ltb _ _ h));
+      }
+
+  pub ended-short : Ended x buffer closed (toZ w64 (ofZ w64 r)) x closed
+  unfolding numberOf decodedNumber
+  ended-short =
+      record {
+        said = refusedBuffer;
+        finishes = record { state = sym (taken _ _ (lt-ltb _ _ h)); answer = sym (taken _ _ (lt-ltb _ _ h)); dates = sym (taken _ _ (lt-ltb _ _ h)) };
+        answer = handed r m a;
+        words = sym (taken _ _ (lt-ltb _ _ h));
+      }
+
+pub ruleset steps = (stepped, ended, stepped-short, ended-short, needs)
 
 -- ---- a byte of a run
 record Runs (x : List ℕ) (n : ℕ) : Type 0 where
@@ -179,7 +210,7 @@ run-fed (k ∷ rest) (b ∷ c ∷ cs) buffer closed y r g = absurd (omega (arith
 
 module _ {x part buffer closed : List ℕ} where
   pub feed-short : {r : ℤ} {x′ buffer′ closed′ : List ℕ} → length buffer < 20000 → mag r < 9223372036854775808 → Stepped x part buffer closed r x′ buffer′ closed′ → Fed x part buffer closed (toZ w64 (ofZ w64 r)) x′ buffer′ closed′
-  feed-short {r} h m s = record { said = s .said; feeds = s .feeds; answer = handed r m (s .answer); words = s .words ∙ sym (taken _ _ (lt-ltb _ _ h)) }
+  feed-short {r} h m s = record { said = s .said; feeds = s .feeds; answer = handed r m (s .answer); words = s .words ∙ taken _ _ (lt-ltb _ _ h) ∙ sym (taken _ _ (lt-ltb _ _ h)) }
 
   module _ {y : Bool} (is : y ≡ runsOf x (length part)) (g : 20000 ≤ length buffer) where
     pub feed-run : {x′ buffer′ : List ℕ} → y ≡ true → (x′ ≡ set x 0 (getD x 0 0 + 1)) × (buffer′ ≡ set buffer (getD x 0 0) (getD part 0 0)) → Fed x part buffer closed (pos 0) x′ buffer′ closed
@@ -189,6 +220,6 @@ module _ {x part buffer closed : List ℕ} where
 
     pub feed-other : {r : ℤ} {x′ buffer′ closed′ : List ℕ} → y ≡ false → mag r < 9223372036854775808 → Stepped x part buffer closed r x′ buffer′ closed′ → Fed x part buffer closed (toZ w64 (ofZ w64 r)) x′ buffer′ closed′
     feed-other {r} e m s =
-        record { said = s .said; feeds = s .feeds; answer = handed r m (s .answer); words = s .words ∙ sym (left _ _ (le-ltb _ _ g) ∙ left _ _ (sym is ∙ e)) }
+        record { said = s .said; feeds = s .feeds; answer = handed r m (s .answer); words = s .words ∙ left _ _ (le-ltb _ _ g) ∙ sym (left _ _ (le-ltb _ _ g) ∙ left _ _ (sym is ∙ e)) }
 
 pub ruleset feeding = (run-part, run-small, run-room, feed-short, feed-run, feed-other, needs)

@@ -54,22 +54,22 @@ pub record Renewed (x : List ℕ) (r : ℤ) (x′ : List ℕ) : Type 0 where
   pub state : stateIn x′ ≡ fresh
   pub words : x′ ≡ newWords
 
--- a feed, and the finish: as `feeding` has them, of the state that the words hold
+-- a feed, and the finish: as `feeding` has them, of the state that the words hold; a buffer that is too short leaves every word
 pub record Stepped (x part buffer closed : List ℕ) (r : ℤ) (x′ buffer′ closed′ : List ℕ) : Type 0 where
   pub said : Said
   pub feeds : Feeds (stateIn x) part buffer closed said (stateIn x′) buffer′ closed′
   pub answer : r ≡ numberOf said
-  pub words : x′ ≡ withState (stateIn x′) (saidWords said x)
+  pub words : x′ ≡ pick (short buffer) x (withState (stateIn x′) (saidWords said x))
 
--- a byte of a run leaves all words but one as they were
+-- a byte in the midst of a body leaves every word but the first
 pub record Fed (x part buffer closed : List ℕ) (r : ℤ) (x′ buffer′ closed′ : List ℕ) : Type 0 where
   pub said : Said
   pub feeds : Feeds (stateIn x) part buffer closed said (stateIn x′) buffer′ closed′
   pub answer : r ≡ numberOf said
-  pub words : x′ ≡ pick (short buffer) (withState (stateIn x′) (saidWords said x)) (pick (runsOf x (length part)) (set x 0 (getD x 0 0 + 1)) (withState (stateIn x′) (saidWords said x)))
+  pub words : x′ ≡ pick (short buffer) x (pick (runsOf x (length part)) (set x 0 (getD x 0 0 + 1)) (withState (stateIn x′) (saidWords said x)))
 
 pub record Ended (x buffer closed : List ℕ) (r : ℤ) (x′ closed′ : List ℕ) : Type 0 where
   pub said : Said
   pub finishes : Finishes (stateIn x) buffer closed said (stateIn x′) closed′
   pub answer : r ≡ numberOf said
-  pub words : x′ ≡ withState (stateIn x′) (saidWords said x)
+  pub words : x′ ≡ pick (short buffer) x (withState (stateIn x′) (saidWords said x))

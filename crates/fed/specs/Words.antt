@@ -3,13 +3,13 @@
 use Prim.Native.Nat.{ℕ, _+_, _*_, _-_, _/_, _%_}
 use mathlib.Core.Path.{_≡_}
 use mathlib.Core.Bool.{Bool, true, false}
-use mathlib.Core.List.{List, [], _∷_, _++_}
+use mathlib.Core.List.{List, [], _∷_}
 use lib.Dec.{eqb, leb, ltb}
 use lib.ListN.{getD, set, replicate}
 use lib.Seq.{sets}
 use Rattle.request.specs.Format.{pick}
 use Rattle.feeding.specs.declared.State.{State}
-use Rattle.feeding.specs.Feed.{at}
+use Rattle.feeding.specs.Feed.{at, fresh}
 
 -- sums and differences of words, which wrap
 unfoldable pub sumOf : ℕ → ℕ → ℕ
@@ -43,9 +43,9 @@ pub record Put (s : State) (x x′ : List ℕ) : Type 0 where
   pub words : x′ ≡ withState s x
   pub state : stateIn x′ ≡ s
 
--- a new reader
+-- a new reader, with no numbers
 abbrev pub newWords : List ℕ
-newWords = (0 ∷ 0 ∷ 0 ∷ 0 ∷ 0 ∷ 0 ∷ 1 ∷ 0 ∷ []) ++ replicate 12 65535 ++ replicate 26 0
+newWords = withState fresh (replicate 46 0)
 
 -- numbers from a place on, the low word of each first
 unfoldable pub withNumbers : List ℕ → ℕ → List ℕ → List ℕ

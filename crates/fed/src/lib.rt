@@ -125,14 +125,20 @@ fn put_said(said: Said, words: &mut [u16; 46])
 pub fn reset(words: &mut [u16; 46]) -> i64
     ensures { λ r. ⌜ Renewed (now (words .entry)) r (now (words .exit)) ⌝ }
 {
-    words::put_new(words);
+    words::clear(words);
+    let state = feeding::reset();
+    words::put_state(state, words);
     0
 }
 
-// Any part, by the step that takes the state by value.
+// Any part, by the step that takes the state by value. The part is named by its two ends, so that the compiler has the caller hand it
+// over in registers.
 fn feed_any(words: &mut [u16; 46], part: &[u8], buffer: &mut [u8], closed: &mut [u32]) -> i64
     ensures { λ r. ⌜ Stepped (now (words .entry)) (now (part .entry)) (now (buffer .entry)) (now (closed .entry)) r (now (words .exit)) (now (buffer .exit)) (now (closed .exit)) ⌝ }
 {
+    if buffer.len() < 20000 {
+        return answers::minus(refusal::BUFFER);
+    }
     let state = words::state_in(words);
     let n = part.len();
     let out = feeding::step(state, &part[0..n], buffer, closed);
@@ -143,7 +149,8 @@ fn feed_any(words: &mut [u16; 46], part: &[u8], buffer: &mut [u8], closed: &mut 
     number_of(said)
 }
 
-// A part; one byte in the midst of a body is put to its place at once.
+// A part; one byte in the midst of a body is put to its place at once. `feed_any` has its own test of the buffer: called twice, it stays
+// a call, and such a byte does not pay for its frame.
 pub fn feed(words: &mut [u16; 46], part: &[u8], buffer: &mut [u8], closed: &mut [u32]) -> i64
     ensures { λ r. ⌜ Fed (now (words .entry)) (now (part .entry)) (now (buffer .entry)) (now (closed .entry)) r (now (words .exit)) (now (buffer .exit)) (now (closed .exit)) ⌝ }
 {
@@ -160,6 +167,9 @@ pub fn feed(words: &mut [u16; 46], part: &[u8], buffer: &mut [u8], closed: &mut 
 pub fn finish(words: &mut [u16; 46], buffer: &[u8], closed: &mut [u32]) -> i64
     ensures { λ r. ⌜ Ended (now (words .entry)) (now (buffer .entry)) (now (closed .entry)) r (now (words .exit)) (now (closed .exit)) ⌝ }
 {
+    if buffer.len() < 20000 {
+        return answers::minus(refusal::BUFFER);
+    }
     let state = words::state_in(words);
     let out = feeding::close(state, buffer, closed);
     let said = out.answer;

@@ -1,62 +1,13 @@
-// A reader in 46 words of 16 bits, so that a byte of a run changes one of them: where the reader stands in twenty, then the numbers
-// of the request that it found last, each in two, the low one first.
+// A reader in 46 words of 16 bits. Where it stands is in twenty: how many bytes are stored, the place where the body ends, the bytes
+// fed that are not stored, what comes next and (in the upper byte) whether finished, the tag, the length's high byte, whether all is
+// sound, the length of 0B, the places; so a byte in the midst of a body changes the first alone. Then the numbers of the request
+// that was found last, each in two, the low one first.
 ghost use mathlib.Core.Path.{_≡_};
 ghost use Prim.Native.Nat.{_+_, _*_, _/_, _%_, _<_};
-ghost use lib.ListN.{length, getD, set};
+ghost use lib.ListN.{length, getD, set, replicate};
 ghost use lib.Seq.{sets};
-ghost use Rattle.fed.specs.Words.{sumOf, lessOf, placesIn, stateIn, headOf, withPlaces, Put, newWords, withNumbers, goesOn, runsOf};
+ghost use Rattle.fed.specs.Words.{sumOf, lessOf, placesIn, stateIn, headOf, withPlaces, Put, withNumbers, goesOn, runsOf};
 use feeding::State;
-
-// The state's words: how many bytes are stored, the place where the body ends, the bytes fed that are not stored, what comes next
-// and (in the upper byte) whether finished, the tag, the length's high byte, whether all is sound, the length of 0B, the places.
-const NEW: [u16; 46] = [
-    0,
-    0,
-    0,
-    0,
-    0,
-    0,
-    1,
-    0,
-    65535,
-    65535,
-    65535,
-    65535,
-    65535,
-    65535,
-    65535,
-    65535,
-    65535,
-    65535,
-    65535,
-    65535,
-    0,
-    0,
-    0,
-    0,
-    0,
-    0,
-    0,
-    0,
-    0,
-    0,
-    0,
-    0,
-    0,
-    0,
-    0,
-    0,
-    0,
-    0,
-    0,
-    0,
-    0,
-    0,
-    0,
-    0,
-    0,
-    0,
-];
 
 fn sum(a: u16, b: u16) -> u16
     ensures { λ r. ⌜ r ≡ sumOf a b ⌝ }
@@ -200,11 +151,11 @@ pub(crate) fn put_state(s: State, words: &mut [u16; 46])
     *words = after;
 }
 
-// A new reader's words.
-pub(crate) fn put_new(words: &mut [u16; 46])
-    ensures { λ _. ⌜ now (words .exit) ≡ newWords ⌝ }
+pub(crate) fn clear(words: &mut [u16; 46])
+    ensures { λ _. ⌜ now (words .exit) ≡ replicate 46 0 ⌝ }
 {
-    *words = NEW;
+    let none = [0u16; 46];
+    *words = none;
 }
 
 pub(crate) fn put_numbers(numbers: [u32; 13], words: &mut [u16; 46])

@@ -5,11 +5,18 @@ use Rattle.fed.proofs.feed_any.Statement.{statement}
 use Rattle.fed.proofs.feed_any.Tie as tie
 use Rattle.fed.proofs.feed_any.Reads as reads
 use Rattle.fed.proofs.feed_any.Lts as lts
+use Rattle.crossing.proofs.answers.minus.Reads as minus-reads
 use Rattle.fed.proofs.number_of.Reads as number-of-reads
 use Rattle.fed.proofs.put_said.Reads as put-said-reads
 use Rattle.fed.proofs.words.put_state.Reads as put-state-reads
 use Rattle.fed.proofs.words.state_in.Reads as state-in-reads
 use Rattle.feeding.proofs.step.Reads as step-reads
+
+minus-requires : tie.Need-minus-requires
+minus-requires c κs = search steps
+
+returns : tie.Need-returns
+returns c = search steps
 
 state-in-requires : tie.Need-state-in-requires
 state-in-requires c κs = search steps
@@ -41,13 +48,15 @@ same-length c = search steps
 same-length-2 : tie.Need-same-length-2
 same-length-2 c = search steps
 
-returns : tie.Need-returns
-returns c = search steps
+returns-2 : tie.Need-returns-2
+returns-2 c = search steps
 
 pub feed-any-spec : {M : Type 1} → statement M
 feed-any-spec =
     tie.close
     (tie.spec
+    minus-requires
+    returns
     state-in-requires
     sub-step
     part-step-start
@@ -58,4 +67,4 @@ feed-any-spec =
     number-of-requires
     same-length
     same-length-2
-    returns)
+    returns-2)
