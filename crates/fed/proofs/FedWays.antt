@@ -1,6 +1,6 @@
 -- Laws of a feed and of the finish in words: one for each way through the code.
 -- Assumes nothing.
-use Prim.Native.Nat.{ℕ, zero, suc, _+_, _*_, _-_, _/_, _%_, _≤_, _<_}
+use Prim.Native.Nat.{ℕ, _+_, _-_, _/_, _%_, _≤_, _<_}
 use mathlib.Core.Path.{_≡_, refl, sym, ap, _∙_}
 use mathlib.Core.Bool.{Bool, true, false, false≢true}
 use mathlib.Core.List.{List, [], _∷_}
@@ -23,9 +23,9 @@ use Rattle.steps.specs.declared.Request.{Request}
 use Rattle.feeding.specs.declared.State.{State}
 use Rattle.feeding.specs.declared.Said.{Said}
 use Rattle.feeding.specs.declared.Said.the-variants.{More, Is}
-use Rattle.feeding.specs.Feed.{at, fresh, refusedBuffer, Feeds, Finishes, eaten, laid, settled}
+use Rattle.feeding.specs.Feed.{at, fresh, refusedBuffer, Feeds, Finishes, eaten, laid}
 use Rattle.feeding.specs.Laws.Run.{goes-on, body-eaten, body-laid}
-use Rattle.fed.specs.Words.{sumOf, lessOf, withState, Put, placesIn, stateIn, newWords, withNumbers, goesOn, runsOf}
+use Rattle.fed.specs.Words.{sumOf, lessOf, withState, Put, placesIn, stateIn, withNumbers, goesOn, runsOf}
 use Rattle.fed.specs.Handed.{numbersOf, decodedNumber, numberOf, decodedWords, saidWords, Renewed, Stepped, Fed, Ended}
 use Rattle.fed.proofs.WordWays.{sum-small, less-within}
 
