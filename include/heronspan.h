@@ -313,7 +313,7 @@ int64_t heronspan_year_report(const uint32_t *dates, size_t dates_len, uint32_t 
 /* A reader that is fed the bytes of a request one part at a time, in any cuts, empty parts too. What it stands at between two calls
  * is its own; the numbers of a request that a finish found stand in `request`. heronspan_reset makes it a new one. */
 typedef struct heronspan_reader {
-    uint16_t state[19];
+    uint16_t state[20];
     uint32_t request[13];
 } heronspan_reader;
 

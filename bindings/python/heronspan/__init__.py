@@ -618,7 +618,7 @@ class Request:
 
 
 class _Reader(ctypes.Structure):
-    _fields_ = [("state", ctypes.c_uint16 * 19), ("request", _u32 * 13)]
+    _fields_ = [("state", ctypes.c_uint16 * 20), ("request", _u32 * 13)]
 
 
 class Reader:

@@ -1,7 +1,7 @@
 //! The functions of include/heronspan.h.
 #[repr(C)]
 pub struct Reader {
-    pub state: [u16; 19],
+    pub state: [u16; 20],
     pub request: [u32; 13],
 }
 

@@ -794,7 +794,7 @@ impl Default for Reader {
 
 impl Reader {
     pub fn new() -> Reader {
-        let raw = ffi::Reader { state: [0; 19], request: [0; 13] };
+        let raw = ffi::Reader { state: [0; 20], request: [0; 13] };
         let mut reader = Reader { raw, buffer: vec![0; 20_000], closed: vec![0; Request::MOST] };
         reader.reset();
         reader

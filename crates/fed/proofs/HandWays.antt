@@ -1,15 +1,14 @@
 -- Laws of what is handed on: one for each way through the code.
 -- Assumes nothing.
 use Prim.Native.Nat.{ℕ, _<_, _≤_}
-use mathlib.Core.Path.{_≡_, refl, sym, ap, _∙_}
+use mathlib.Core.Path.{_≡_, sym, ap}
 use mathlib.Core.Bool.{Bool, true, false}
-use mathlib.Core.List.{List, [], _∷_}
+use mathlib.Core.List.{[], _∷_}
 use borrow.Author.Needs.{needs}
 use borrow.Author.Tests.{lt-ltb, le-ltb}
-use lib.IntN.{ℤ, pos, negℤ, natAbs}
+use lib.IntN.{natAbs}
 use lib.Signed.{mag}
-use mir.Syntax.{w32, w64}
-use lib.ListN.{replicate}
+use mir.Syntax.{w32}
 use mir.Val.{toZ, ofZ}
 use Rattle.period.specs.Period.{isNegative}
 use Rattle.period.specs.Laws.Signed.{same32}
@@ -18,16 +17,8 @@ use Rattle.steps.specs.declared.Request.{Request}
 use Rattle.steps.specs.Rules.{ruleNumber}
 use Rattle.crossing.specs.Answers.{yes}
 use Rattle.crossing.specs.Numbers.{unitNumber}
-use Rattle.crossing.specs.Laws.Calls.{handed}
 use Rattle.request.specs.Laws.Picks.{taken, left}
-use Rattle.request.specs.declared.Decoded.{Decoded}
-use Rattle.request.specs.declared.Decoded.the-variants.{Asked, Refused}
-use Rattle.feeding.specs.declared.State.{State}
-use Rattle.feeding.specs.declared.Said.{Said}
-use Rattle.feeding.specs.declared.Said.the-variants.{More, Is}
-use Rattle.feeding.specs.Feed.{fresh, Feeds, Finishes}
-use Rattle.fed.specs.declared.Reader.{Reader}
-use Rattle.fed.specs.Handed.{few, numbersOf, decodedNumber, numberOf, decodedRecord, recordOf, Renewed, Fed, Ended}
+use Rattle.fed.specs.Handed.{few, numbersOf}
 
 pub flag-yes : {b : Bool} → b ≡ true → 1 ≡ yes b
 unfolding yes
@@ -57,30 +48,3 @@ numbers-are q n m s g b u r c t e k =
     cc
 
 pub ruleset numbers = (numbers-are, needs)
-
-module _ {x : Reader} {buffer closed : List ℕ} {said : Said} {s′ : State} {ns : List ℕ} {r : ℤ} where
-  pub fed-by : {part buffer′ closed′ : List ℕ} → Feeds (x .state) part buffer closed said s′ buffer′ closed′ → ns ≡ recordOf said (x .request) → mag r < 9223372036854775808 → r ≡ numberOf said
-      → Fed x part buffer closed (toZ w64 (ofZ w64 r)) (record { state = s′; request = ns }) buffer′ closed′
-  fed-by f e m a = record { said = said; feeds = f; answer = handed r m a; numbers = e }
-
-  pub ended-by : {closed′ : List ℕ} → Finishes (x .state) buffer closed said s′ closed′ → ns ≡ recordOf said (x .request) → mag r < 9223372036854775808 → r ≡ numberOf said
-      → Ended x buffer closed (toZ w64 (ofZ w64 r)) (record { state = s′; request = ns }) closed′
-  ended-by f e m a = record { said = said; finishes = f; answer = handed r m a; numbers = e }
-
-pub ruleset hands = (fed-by, ended-by, needs)
-
-pub renewed : (x : Reader) {s : State} → s ≡ fresh → Renewed x (pos 0) (record { state = s; request = replicate 13 0 })
-renewed x e = record { answer = refl; reader = ap (λ (s : State). record { state = s; request = replicate 13 0 }) e }
-
-pub ruleset renewals = (renewed, needs)
-
-module _ (before : List ℕ) {d : Decoded} where
-  pub record-found : {q : Request} {n : ℕ} {ns : List ℕ} → d ≡ Asked q n → ns ≡ numbersOf q n → ns ≡ decodedRecord d before
-  unfolding decodedRecord
-  record-found e is = is ∙ ap (λ (x : Decoded). decodedRecord x before) (sym e)
-
-  pub record-refused : {n : ℕ} → d ≡ Refused n → before ≡ decodedRecord d before
-  unfolding decodedRecord
-  record-refused e = ap (λ (x : Decoded). decodedRecord x before) (sym e)
-
-pub ruleset records = (record-found, record-refused, needs)

@@ -1,1 +1,3 @@
+pub mod FedWays
 pub mod HandWays
+pub mod WordWays

@@ -1,11 +1,11 @@
 -- Document 02, L1, for other languages: the answer of a feed as one number, and the request in thirteen.
 -- Assumes nothing.
-use Prim.Native.Nat.{ℕ}
+use Prim.Native.Nat.{ℕ, _+_}
 use mathlib.Core.Path.{_≡_}
 use mathlib.Core.List.{List, [], _∷_}
 use lib.Dec.{ltb}
 use lib.IntN.{ℤ, pos, negℤ, natAbs}
-use lib.ListN.{replicate}
+use lib.ListN.{length, getD, set}
 use Rattle.period.specs.Period.{isNegative}
 use Rattle.calendar.specs.Adjust.{conventionNumber}
 use Rattle.steps.specs.declared.Request.{Request}
@@ -17,8 +17,8 @@ use Rattle.request.specs.declared.Decoded.{Decoded}
 use Rattle.request.specs.declared.Decoded.the-variants.{Asked, Refused}
 use Rattle.feeding.specs.declared.Said.{Said}
 use Rattle.feeding.specs.declared.Said.the-variants.{More, Is}
-use Rattle.feeding.specs.Feed.{fresh, Feeds, Finishes}
-use Rattle.fed.specs.declared.Reader.{Reader}
+use Rattle.feeding.specs.Feed.{fresh, short, Feeds, Finishes}
+use Rattle.fed.specs.Words.{stateIn, withState, newWords, withNumbers, runsOf}
 
 -- a count as a number of 32 bits; no request has more than 4,096 closed dates
 unfoldable pub few : ℕ → ℕ
@@ -40,31 +40,36 @@ unfoldable pub numberOf : Said → ℤ
 numberOf More = pos 0
 numberOf (Is d) = decodedNumber d
 
--- the numbers of a request that was found; else those before
-unfoldable pub decodedRecord : Decoded → List ℕ → List ℕ
-decodedRecord (Asked q n) before = numbersOf q n
-decodedRecord (Refused n) before = before
+-- the words of a reader that found a request hold its numbers; else those before
+unfoldable pub decodedWords : Decoded → List ℕ → List ℕ
+decodedWords (Asked q n) x = withNumbers x 20 (numbersOf q n)
+decodedWords (Refused n) x = x
 
-unfoldable pub recordOf : Said → List ℕ → List ℕ
-recordOf More before = before
-recordOf (Is d) before = decodedRecord d before
+unfoldable pub saidWords : Said → List ℕ → List ℕ
+saidWords More x = x
+saidWords (Is d) x = decodedWords d x
 
-abbrev pub newReader : Reader
-newReader = record { state = fresh; request = replicate 13 0 }
-
-pub record Renewed (x : Reader) (r : ℤ) (x′ : Reader) : Type 0 where
+pub record Renewed (x : List ℕ) (r : ℤ) (x′ : List ℕ) : Type 0 where
   pub answer : r ≡ pos 0
-  pub reader : x′ ≡ newReader
+  pub state : stateIn x′ ≡ fresh
+  pub words : x′ ≡ newWords
 
--- a feed, and the finish: as `feeding` has them
-pub record Fed (x : Reader) (part buffer closed : List ℕ) (r : ℤ) (x′ : Reader) (buffer′ closed′ : List ℕ) : Type 0 where
+-- a feed, and the finish: as `feeding` has them, of the state that the words hold; a buffer that is too short leaves every word
+pub record Stepped (x part buffer closed : List ℕ) (r : ℤ) (x′ buffer′ closed′ : List ℕ) : Type 0 where
   pub said : Said
-  pub feeds : Feeds (x .state) part buffer closed said (x′ .state) buffer′ closed′
+  pub feeds : Feeds (stateIn x) part buffer closed said (stateIn x′) buffer′ closed′
   pub answer : r ≡ numberOf said
-  pub numbers : x′ .request ≡ recordOf said (x .request)
+  pub words : x′ ≡ pick (short buffer) x (withState (stateIn x′) (saidWords said x))
 
-pub record Ended (x : Reader) (buffer closed : List ℕ) (r : ℤ) (x′ : Reader) (closed′ : List ℕ) : Type 0 where
+-- a byte in the midst of a body leaves every word but the first
+pub record Fed (x part buffer closed : List ℕ) (r : ℤ) (x′ buffer′ closed′ : List ℕ) : Type 0 where
   pub said : Said
-  pub finishes : Finishes (x .state) buffer closed said (x′ .state) closed′
+  pub feeds : Feeds (stateIn x) part buffer closed said (stateIn x′) buffer′ closed′
   pub answer : r ≡ numberOf said
-  pub numbers : x′ .request ≡ recordOf said (x .request)
+  pub words : x′ ≡ pick (short buffer) x (pick (runsOf x (length part)) (set x 0 (getD x 0 0 + 1)) (withState (stateIn x′) (saidWords said x)))
+
+pub record Ended (x buffer closed : List ℕ) (r : ℤ) (x′ closed′ : List ℕ) : Type 0 where
+  pub said : Said
+  pub finishes : Finishes (stateIn x) buffer closed said (stateIn x′) closed′
+  pub answer : r ≡ numberOf said
+  pub words : x′ ≡ pick (short buffer) x (withState (stateIn x′) (saidWords said x))

@@ -2,27 +2,17 @@
 ghost use mathlib.Core.Path.{_≡_};
 ghost use Rattle.calendar.specs.Adjust.{conventionNumber};
 ghost use Rattle.crossing.specs.Answers.{yes};
-ghost use Rattle.fed.specs.Handed.{few, numbersOf, decodedNumber, numberOf, decodedRecord, recordOf, Renewed, Fed, Ended};
+ghost use Rattle.fed.specs.Handed.{few, numbersOf, decodedNumber, numberOf, decodedWords, saidWords, Renewed, Stepped, Fed, Ended};
 use calendar::Convention;
 use crossing::answers;
 use feeding::Said;
-use feeding::State;
 use period::sign;
 use request::Decoded;
 use steps::Request;
 use steps::rules;
 
-// A reader, and the request that it found last.
-#[repr(C)]
-pub struct Reader {
-    pub state: State,
-    pub request: [u32; 13],
-}
-
-pub struct Handed {
-    pub state: Reader,
-    pub answer: i64,
-}
+// The reader's words.
+mod words;
 
 fn convention_number(convention: Convention) -> u32
     ensures { λ r. ⌜ r ≡ conventionNumber convention ⌝ }
@@ -110,70 +100,81 @@ fn number_of(said: Said) -> i64
     }
 }
 
-fn decoded_record(d: Decoded, before: [u32; 13]) -> [u32; 13]
-    ensures { λ r. ⌜ r ≡ decodedRecord d before ⌝ }
+fn put_decoded(d: Decoded, words: &mut [u16; 46])
+    ensures { λ _. ⌜ now (words .exit) ≡ decodedWords d (now (words .entry)) ⌝ }
 {
     match d {
         Decoded::Asked {
             request: q,
             closed: n,
-        } => numbers_of(q, n),
-        Decoded::Refused(_) => before,
+        } => words::put_numbers(numbers_of(q, n), words),
+        Decoded::Refused(_) => {}
     }
 }
 
-fn record_of(said: Said, before: [u32; 13]) -> [u32; 13]
-    ensures { λ r. ⌜ r ≡ recordOf said before ⌝ }
+fn put_said(said: Said, words: &mut [u16; 46])
+    ensures { λ _. ⌜ now (words .exit) ≡ saidWords said (now (words .entry)) ⌝ }
 {
     match said {
-        Said::More => before,
-        Said::Is(d) => decoded_record(d, before),
+        Said::More => {}
+        Said::Is(d) => put_decoded(d, words),
     }
 }
 
 // A new reader, whatever it was.
-pub fn reset(old: Reader) -> Handed
-    ensures { λ r. ⌜ Renewed old (r .answer) (r .state) ⌝ }
+pub fn reset(words: &mut [u16; 46]) -> i64
+    ensures { λ r. ⌜ Renewed (now (words .entry)) r (now (words .exit)) ⌝ }
 {
+    words::clear(words);
     let state = feeding::reset();
-    let request = [0u32; 13];
-    let reader = Reader { state, request };
-    Handed {
-        state: reader,
-        answer: 0,
+    words::put_state(state, words);
+    0
+}
+
+// Any part, by the step that takes the state by value. The part is named by its two ends, so that the compiler has the caller hand it
+// over in registers.
+fn feed_any(words: &mut [u16; 46], part: &[u8], buffer: &mut [u8], closed: &mut [u32]) -> i64
+    ensures { λ r. ⌜ Stepped (now (words .entry)) (now (part .entry)) (now (buffer .entry)) (now (closed .entry)) r (now (words .exit)) (now (buffer .exit)) (now (closed .exit)) ⌝ }
+{
+    if buffer.len() < 20000 {
+        return answers::minus(refusal::BUFFER);
     }
-}
-
-pub fn feed(reader: Reader, part: &[u8], buffer: &mut [u8], closed: &mut [u32]) -> Handed
-    ensures { λ r. ⌜ Fed reader (now (part .entry)) (now (buffer .entry)) (now (closed .entry)) (r .answer) (r .state) (now (buffer .exit)) (now (closed .exit)) ⌝ }
-{
-    let state = reader.state;
-    let out = feeding::step(state, part, buffer, closed);
-    let next = out.state;
+    let state = words::state_in(words);
+    let n = part.len();
+    let out = feeding::step(state, &part[0..n], buffer, closed);
     let said = out.answer;
-    let before = reader.request;
-    let request = record_of(said, before);
-    let answer = number_of(said);
-    let now = Reader {
-        state: next,
-        request,
-    };
-    Handed { state: now, answer }
+    put_said(said, words);
+    let next = out.state;
+    words::put_state(next, words);
+    number_of(said)
 }
 
-pub fn finish(reader: Reader, buffer: &[u8], closed: &mut [u32]) -> Handed
-    ensures { λ r. ⌜ Ended reader (now (buffer .entry)) (now (closed .entry)) (r .answer) (r .state) (now (closed .exit)) ⌝ }
+// A part; one byte in the midst of a body is put to its place at once. `feed_any` has its own test of the buffer: called twice, it stays
+// a call, and such a byte does not pay for its frame.
+pub fn feed(words: &mut [u16; 46], part: &[u8], buffer: &mut [u8], closed: &mut [u32]) -> i64
+    ensures { λ r. ⌜ Fed (now (words .entry)) (now (part .entry)) (now (buffer .entry)) (now (closed .entry)) r (now (words .exit)) (now (buffer .exit)) (now (closed .exit)) ⌝ }
 {
-    let state = reader.state;
+    if buffer.len() < 20000 {
+        return feed_any(words, part, buffer, closed);
+    }
+    if words::runs(words, part.len()) {
+        words::run(words, part[0], buffer);
+        return 0;
+    }
+    feed_any(words, part, buffer, closed)
+}
+
+pub fn finish(words: &mut [u16; 46], buffer: &[u8], closed: &mut [u32]) -> i64
+    ensures { λ r. ⌜ Ended (now (words .entry)) (now (buffer .entry)) (now (closed .entry)) r (now (words .exit)) (now (closed .exit)) ⌝ }
+{
+    if buffer.len() < 20000 {
+        return answers::minus(refusal::BUFFER);
+    }
+    let state = words::state_in(words);
     let out = feeding::close(state, buffer, closed);
-    let next = out.state;
     let said = out.answer;
-    let before = reader.request;
-    let request = record_of(said, before);
-    let answer = number_of(said);
-    let now = Reader {
-        state: next,
-        request,
-    };
-    Handed { state: now, answer }
+    put_said(said, words);
+    let next = out.state;
+    words::put_state(next, words);
+    number_of(said)
 }
