@@ -49,7 +49,7 @@ behind = ascii "END:VCALENDAR" ∷ []
 unfoldable pub eventLines : Run → List Bytes
 eventLines r =
     ascii "BEGIN:VEVENT" ∷
-    (ascii "UID:" ++ dateText (r .first) ++ ascii "@heronspan") ∷
+    (ascii "UID:" ++ (dateText (r .first) ++ ascii "@heronspan")) ∷
     ascii "DTSTAMP:19700101T000000Z" ∷
     (ascii "DTSTART;VALUE=DATE:" ++ dateText (r .first)) ∷
     (ascii "DTEND;VALUE=DATE:" ++ dateText (r .past)) ∷
