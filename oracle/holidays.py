@@ -258,16 +258,15 @@ def random_event(r):
     day = random_day(r)
     lines = [f"DTSTART;VALUE=DATE:{date_text(day)}"]
     if r.random() < 0.6:
-        lines.append(f"DTEND;VALUE=DATE:{date_text(day + r.choice([1, 1, 1, 2, 7, 40, 0]))}")
+        lines.append(f"DTEND;VALUE=DATE:{date_text(day + r.choice([1, 1, 1, 2, 7, 40, 0, 3000]))}")
     if r.random() < 0.3:
         lines.append(r.choice(["SUMMARY:Tag der Arbeit, überall", "TRANSP:TRANSPARENT", "STATUS:CANCELLED", "UID:x@y", "X-A;B=\"c:d\":e", "no colon"]))
-    if r.random() < 0.15:
-        lines += ["BEGIN:VALARM", "TRIGGER:-PT1H", r.choice(["DURATION:PT5M", "DTSTART:x"]), "END:VALARM"]
     if r.random() < 0.04:
         lines.append(r.choice(["RRULE:FREQ=YEARLY", "EXDATE:20250501", "DURATION:P1D", "DTSTART:20250501T090000Z", "dtend;value=date-time:20250501t090000"]))
     r.shuffle(lines)
-    if "BEGIN:VALARM" in lines:
-        lines = [line for line in lines if not re.search("VALARM|TRIGGER|DTSTART:x|PT5M", line)] + ["BEGIN:VALARM", "DTSTART:x", "END:VALARM"]
+    if r.random() < 0.15:
+        at = r.randint(0, len(lines))
+        lines[at:at] = ["BEGIN:VALARM", "TRIGGER:-PT1H", r.choice(["DURATION:PT5M", "DTSTART:x"]), "END:VALARM"]
     return ["BEGIN:VEVENT", *lines, "END:VEVENT"]
 
 
@@ -291,7 +290,7 @@ def random_file(r):
 
 def mutated(r, data):
     data = bytearray(data)
-    for _ in range(r.randint(1, 4)):
+    for _ in range(r.choice([1, 1, 1, 2, 4])):
         at = r.randint(0, len(data)) if data else 0
         way = r.random()
         if way < 0.3 and data:
@@ -307,9 +306,9 @@ def mutated(r, data):
 
 
 # ---- files as producers write them
-def produced():
-    """Name, file: shapes of each producer, with days from 2019 to 2032."""
-    days = [datetime.date(year, month, day) for year in range(2019, 2033) for month, day in ((1, 1), (5, 1), (12, 25), (12, 26))]
+def produced(years=14):
+    """Name, file: shapes of each producer, four days a year from 2019 on."""
+    days = [datetime.date(2019 + year, month, day) for year in range(years) for month, day in ((1, 1), (5, 1), (12, 25), (12, 26))]
     one = datetime.timedelta(1)
 
     def put(head, event, end="\r\n", tail="END:VCALENDAR"):

@@ -1,7 +1,11 @@
 """Calendar files: the page's examples, what is refused and where, and the way back. Answers are by hand."""
 import ctypes
+import subprocess
+import sys
+import tempfile
 import unittest
 from datetime import date, timedelta
+from pathlib import Path
 
 import heronspan as h
 
@@ -49,6 +53,19 @@ class Holidays(unittest.TestCase):
         self.assertEqual((list(days), list(line)), ([7, 8, 9], [3, 6]))
         self.assertEqual(call(good, len(good), days, 3, line, 2), 1)
         self.assertEqual((list(days), list(line)), ([MAY.toordinal(), 8, 9], [0, 6]))
+
+    def test_requests_take_them(self) -> None:
+        tool = Path(__file__).resolve().parents[3] / "tools" / "request"
+        with tempfile.TemporaryDirectory() as folder:
+            closed = Path(folder, "may.ics")
+            closed.write_bytes(events("DTSTART;VALUE=DATE:20250501"))
+            made = subprocess.run([sys.executable, tool, "2025-04-01", "2025-06-01", "--closed", closed, "--hex"], capture_output=True, check=False)
+            self.assertEqual((made.returncode, made.stderr), (0, b""))
+            self.assertIn(b"0b0004000b482c", made.stdout)
+            closed.write_bytes(events("DTSTART:20250501"))
+            made = subprocess.run([sys.executable, tool, "2025-04-01", "2025-06-01", "--closed", closed], capture_output=True, check=False)
+            self.assertEqual((made.returncode, made.stdout), (2, b""))
+            self.assertIn(b"refused at line 3: 24 ICAL", made.stderr)
 
     def test_a_calendar_of_them(self) -> None:
         calendar = h.Calendar(h.WEEKENDS, h.holidays(events("DTSTART;VALUE=DATE:20250501")))
