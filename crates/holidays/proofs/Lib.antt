@@ -8,3 +8,5 @@ pub mod EventWays
 pub mod TurnWays
 pub mod WalkWays
 pub mod ImportWays
+pub mod OtherWays
+pub mod UsualWays

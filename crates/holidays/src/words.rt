@@ -7,6 +7,7 @@ ghost use lib.Dec.{eqb};
 ghost use Rattle.holidays.specs.Inner.Letters.{Lettered, pack, packs};
 ghost use Rattle.holidays.specs.Inner.Pieces.{isStop, ReadsPiece};
 ghost use Rattle.holidays.specs.Inner.Along.{Before, ahead};
+ghost use Rattle.holidays.specs.Inner.Others.{Others};
 use crate::lines;
 use crate::lines::Step;
 
@@ -151,6 +152,25 @@ fn capital(b: u8) -> u8
         return b - 32;
     }
     b
+}
+
+// Whether a byte stands there with which no name that counts starts: none of B, D, E and R, and no line end.
+pub(crate) fn is_other(file: &[u8], at: usize) -> bool
+    ensures { λ r. ⌜ Others (now (file .entry)) at r ⌝ }
+{
+    if file.len() <= at {
+        return false;
+    }
+    let c = capital(file[at]);
+    match c {
+        10 => false,
+        13 => false,
+        66 => false,
+        68 => false,
+        69 => false,
+        82 => false,
+        _ => true,
+    }
 }
 
 fn is_end(file: &[u8], at: usize) -> bool

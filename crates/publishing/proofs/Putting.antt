@@ -13,7 +13,7 @@ use Rattle.date.specs.declared.Fields.{Fields}
 use Rattle.date.specs.Civil.{fieldsOf}
 use Rattle.holidays.specs.Words.{Bytes, ascii}
 use Rattle.publishing.specs.File.{twoDigits, dateText, eventLines, written}
-use Rattle.publishing.specs.Put.{Put, PutDate}
+use Rattle.publishing.specs.Inner.Put.{Put, PutDate}
 
 pub put-none : (at : ℕ) (out : List ℕ) → Put [] at out at out
 put-none at out = record { ends = omega arith; before = sym (append-nil _); behind = refl; size = refl }

@@ -17,8 +17,8 @@ use Rattle.calendar.specs.Open.{closedOk}
 use Rattle.calendar.specs.Laws.Kept.{checked-keeps}
 use Rattle.holidays.specs.Words.{Bytes}
 use Rattle.publishing.specs.File.{Run, joined, runsFrom, runsOf, eventLines, allEvents, written}
-use Rattle.publishing.specs.Inner.{newBy, isNew}
-use Rattle.publishing.specs.Put.{Put}
+use Rattle.publishing.specs.Inner.Runs.{newBy, isNew}
+use Rattle.publishing.specs.Inner.Put.{Put}
 use Rattle.publishing.specs.Laws.Sizes.{written-more, event-size, events-size}
 use Rattle.publishing.proofs.Putting.{put-none, put-then}
 

@@ -19,7 +19,7 @@ use Rattle.publishing.specs.declared.Exported.{Exported}
 use Rattle.publishing.specs.declared.Exported.the-variants as exported-is
 use Rattle.publishing.specs.File.{before, behind, allEvents, written, runsOf, fileOf, exportOf}
 use Rattle.publishing.specs.Promise.{answerOf, bytesOf, Exports}
-use Rattle.publishing.specs.Put.{Put}
+use Rattle.publishing.specs.Inner.Put.{Put}
 use Rattle.publishing.specs.Laws.Sizes.{events-size, file-parts, file-size}
 use Rattle.publishing.proofs.Putting.{put-then}
 

@@ -5,8 +5,8 @@ ghost use Prim.Native.Nat.{_+_, _*_, _≤_};
 ghost use lib.ListN.{length};
 ghost use Rattle.calendar.specs.Open.{closedOk};
 ghost use Rattle.publishing.specs.File.{runsOf, eventLines, allEvents, written};
-ghost use Rattle.publishing.specs.Put.{Put};
-ghost use Rattle.publishing.specs.Inner.{isNew};
+ghost use Rattle.publishing.specs.Inner.Put.{Put};
+ghost use Rattle.publishing.specs.Inner.Runs.{isNew};
 use crate::puts::put_bytes;
 use crate::puts::put_date;
 

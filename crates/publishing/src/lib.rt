@@ -5,7 +5,7 @@ ghost use Prim.Native.Nat.{_+_, _*_, _≤_};
 ghost use lib.ListN.{length};
 ghost use Rattle.calendar.specs.Open.{closedOk};
 ghost use Rattle.publishing.specs.File.{runsOf, fileOf};
-ghost use Rattle.publishing.specs.Put.{Put};
+ghost use Rattle.publishing.specs.Inner.Put.{Put};
 ghost use Rattle.publishing.specs.Promise.{Exports};
 use calendar::closed_dates;
 use puts::put_bytes;

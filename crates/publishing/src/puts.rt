@@ -2,7 +2,7 @@
 ghost use Prim.Native.Nat.{_+_, _≤_, _<_};
 ghost use lib.ListN.{length};
 ghost use Rattle.publishing.specs.File.{twoDigits};
-ghost use Rattle.publishing.specs.Put.{Put, PutDate};
+ghost use Rattle.publishing.specs.Inner.Put.{Put, PutDate};
 use date::civil;
 
 pub(crate) fn put_bytes(text: &[u8], at: usize, out: &mut [u8]) -> usize
