@@ -10,3 +10,4 @@ pub mod WalkWays
 pub mod ImportWays
 pub mod OtherWays
 pub mod UsualWays
+pub mod NameWays

@@ -26,16 +26,16 @@ is-usual file at h l b₀ b₁ b₂ b₃ b₄ b₅ b₆ b₇ b₈ b₉ b₁₀ =
 pub ruleset usuals = (not-usual, is-usual, needs)
 
 -- ---- bytes of a line, one after the other, without a fold
-record Read (file : Bytes) (at line k : ℕ) (done : Bytes) : Type 0 where
-  bytes : ahead file at line ≡ done ++ ahead file (at + k) line
-  inside : Inside file at line (at + k) line
+pub record Read (file : Bytes) (at line k : ℕ) (done : Bytes) : Type 0 where
+  pub bytes : ahead file at line ≡ done ++ ahead file (at + k) line
+  pub inside : Inside file at line (at + k) line
 
-read-start : {file : Bytes} {at line : ℕ} → Before file at line → Read file at line 0 []
+pub read-start : {file : Bytes} {at line : ℕ} → Before file at line → Read file at line 0 []
 read-start {file} {at} {line} b =
     let e : at ≡ at + 0 = omega arith in
     record { bytes = ap (λ (i : ℕ). ahead file i line) e; inside = subst (λ (i : ℕ). Inside file at line i line) e (inside-here b) }
 
-read-more : (file : Bytes) (at line k c : ℕ) {done : Bytes} → Read file at line k done → at + k < length file → getD file (at + k) 0 ≡ c → 13 < c → Read file at line (k + 1) (done ++ (c ∷ []))
+pub read-more : (file : Bytes) (at line k c : ℕ) {done : Bytes} → Read file at line k done → at + k < length file → getD file (at + k) 0 ≡ c → 13 < c → Read file at line (k + 1) (done ++ (c ∷ []))
 unfolding stepped
 read-more file at line k c {done} r h e l =
     let f : at + k + 1 ≡ at + (k + 1) = omega arith in

@@ -190,7 +190,7 @@ fn named_turn(file: &[u8], st: State, stack: &mut [u32], room: usize, map: &mut 
     requires { ⌜ Keeps (now file) (now stack) room (now map) st ⌝ }
     ensures { λ r. ⌜ Turned (now (file .entry)) st (now (stack .entry)) room (now (map .entry)) r (now (stack .exit)) (now (map .exit)) ⌝ }
 {
-    let name = words::read_piece(file, st.at, st.line, false, false);
+    let name = words::read_name(file, st.at, st.line);
     if name.number == 35822894 {
         let v = parameters::read_value(file, name.at, name.line, name.mark);
         return begin_turn(file, v, st, stack);

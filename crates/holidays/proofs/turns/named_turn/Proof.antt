@@ -10,10 +10,9 @@ use Rattle.holidays.proofs.turns.begin_turn.Reads as begin-turn-reads
 use Rattle.holidays.proofs.turns.end_turn.Reads as end-turn-reads
 use Rattle.holidays.proofs.turns.event_turn.Reads as event-turn-reads
 use Rattle.holidays.proofs.turns.in_event.Reads as in-event-reads
-use Rattle.holidays.proofs.words.read_piece.Reads as read-piece-reads
 
-read-piece-requires : tie.Need-read-piece-requires
-read-piece-requires c κs = search turn-ways
+read-name-requires : tie.Need-read-name-requires
+read-name-requires c κs = search turn-ways
 
 read-value-requires : tie.Need-read-value-requires
 read-value-requires c κs = search turn-ways
@@ -61,7 +60,7 @@ pub named-turn-spec : {M : Type 1} → statement M
 named-turn-spec =
     tie.close
     (tie.spec
-    read-piece-requires
+    read-name-requires
     read-value-requires
     begin-turn-requires
     same-length
