@@ -5,7 +5,7 @@
 
 It asks heronspan_holidays_import, as C calls it, for the request's examples, for COUNT random files and for COUNT mutated ones, each into
 a list of its own room, and holds answer, line and list to `reading` below; lists of dates through the export and back. Files as
-python-icalendar, vobject, Google, Outlook, Apple and gov.uk write them are held to `reading`, and to the days that libical,
+python-icalendar, vobject, Google, Outlook, Apple, gov.uk and our export write them are held to `reading`, and to the days that libical,
 python-icalendar and vobject find in them, where these are installed. It prints how many files of each kind there were, and stops at
 the first difference.
 """
@@ -437,7 +437,8 @@ def main(seed, count):
         hold("the page, second reading", data, answer, reading(data, room))
         hold("the page", data, answer, ours(asked, data, room))
         seen["the page's examples"] += 1
-    for name, data in produced():
+    exported = ("our own export", written(asked, [day + k for day in range(FIRST, LAST, 700) for k in range(day % 3 + 1)]))
+    for name, data in [*produced(), exported]:
         expected = reading(data)
         assert isinstance(expected, list) and expected, name
         hold(name, data, expected, ours(asked, data, MOST))
