@@ -353,6 +353,25 @@ int64_t heronspan_feed(heronspan_reader *reader, const uint8_t *part, size_t par
 int64_t heronspan_finish(heronspan_reader *reader, const uint8_t *buffer, size_t buffer_len, uint32_t *closed,
                          size_t closed_len);
 
+/* ---- closed dates from and to calendar files (iCalendar, RFC 5545) */
+
+/* The most bytes that a calendar file has. */
+#define HERONSPAN_FILE 65536
+
+/* The days of the file's all-day events, each once, ascending: they stand at the start of `days`, later places keep what they held, and
+ * how many they are is answered. The list passes heronspan_calendar_check with every mask that leaves a weekday open. A file that is
+ * empty, over HERONSPAN_FILE bytes or against the rules is HERONSPAN_ICAL, a timed or recurring event HERONSPAN_ICALKIND, a day outside 1800 to
+ * 2399 HERONSPAN_BOOK, a day too many HERONSPAN_ROOM, or HERONSPAN_FULL where HERONSPAN_MOST places and more were lent: the first in file
+ * order. The first place of `line` is always written: the number of the line that is refused, 0 where none is or where it is the
+ * whole file. No place for it is HERONSPAN_ROOM before all else. */
+int64_t heronspan_holidays_import(const uint8_t *file, size_t file_len, uint32_t *days, size_t days_len, uint32_t *line,
+                                  size_t line_len);
+
+/* The closed dates as such a file, an event for each run of days: its bytes stand at the start of `file`, and how many they are is
+ * answered. Imported, it gives the list back. A list that breaks the calendar's rule is HERONSPAN_CALENDAR, one of more than 495 runs,
+ * whose file the import would not take, HERONSPAN_ICAL, and too few places HERONSPAN_ROOM. */
+int64_t heronspan_holidays_export(const uint32_t *closed, size_t closed_len, uint8_t *file, size_t file_len);
+
 /* ---- names */
 
 /* The most bytes that the name of a refusal has. */

@@ -18,8 +18,8 @@ DATES = "01 0004 000B436C 02 0004 000B4403"
 END = "FF 0000"
 
 
-def run(*words, data=b""):
-    return subprocess.run([sys.executable, TOOL, *words], input=data, capture_output=True, check=False)
+def run(*words, data=b"", **environment):
+    return subprocess.run([sys.executable, TOOL, *words], input=data, capture_output=True, check=False, env={**os.environ, **environment})
 
 
 class Writes(unittest.TestCase):
@@ -121,6 +121,21 @@ class Command(unittest.TestCase):
             self.assertEqual(run("read", written).stdout.decode().splitlines(),
                              ["effective 2022-01-01", "termination 2022-06-01", "tenor -3M",
                               "closed 2022-01-03 2022-04-15"])
+
+    def test_calendar_file_without_the_library(self):
+        lines = ["BEGIN:VCALENDAR", "BEGIN:VEVENT", "DTSTART;VALUE=DATE:20220415", "DTEND;VALUE=DATE:20220417", "END:VEVENT", "END:VCALENDAR", ""]
+        with tempfile.TemporaryDirectory() as folder:
+            closed = os.path.join(folder, "Easter.ICS")
+            with open(closed, "w", encoding="utf-8") as file:
+                file.write("\n".join(lines))
+            made = run("2022-01-01", "2022-06-01", "--closed", closed, HERONSPAN_LIBRARY="/nowhere/at/all")
+            self.assertEqual(made.stdout.hex(), bytes.fromhex(DATES + "0B 0008 000B43D4 000B43D5" + END).hex())
+            self.assertIn(b"oracle/holidays.py", made.stderr)
+            with open(closed, "w", encoding="utf-8") as file:
+                file.write("\n".join(lines[:4]))
+            made = run("2022-01-01", "2022-06-01", "--closed", closed, HERONSPAN_LIBRARY="/nowhere/at/all")
+            self.assertEqual((made.returncode, made.stdout), (2, b""))
+            self.assertIn(b"refused at line 4: 24", made.stderr)
 
     def test_pipe(self):
         made = run("2022-01-01", "2022-06-01", "1M")

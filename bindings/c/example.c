@@ -95,6 +95,19 @@ int main(void) {
     printf("\n");
     print_refusal("two places", heronspan_desk_combine(&christmas, 1, house, 4, closed, 2));
 
+    /* The first of May from a calendar file, and its file again; then a line that is refused. */
+    static const char may[] = "BEGIN:VCALENDAR\nBEGIN:VEVENT\nDTSTART;VALUE=DATE:20250501\nEND:VEVENT\nEND:VCALENDAR\n";
+    static const char timed[] = "BEGIN:VCALENDAR\nBEGIN:VEVENT\nDTSTART:20250501T090000Z\n";
+    static uint8_t file[HERONSPAN_FILE];
+    uint32_t line[1];
+    int64_t read = heronspan_holidays_import((const uint8_t *)may, sizeof may - 1, closed, HERONSPAN_MOST, line, 1);
+    printf("holidays: %" PRId64 ", ", read);
+    print_day(closed[0]);
+    printf(", a file of %" PRId64 " bytes\n", heronspan_holidays_export(closed, 1, file, sizeof file));
+    read = heronspan_holidays_import((const uint8_t *)timed, sizeof timed - 1, closed, HERONSPAN_MOST, line, 1);
+    printf("line %" PRIu32 ", ", line[0]);
+    print_refusal("timed", read);
+
     /* 0 is no date: it is neither before nor after the real ones. */
     print_refusal("a missing date", heronspan_compare(0, effective));
     return same_names() ? 0 : 1;

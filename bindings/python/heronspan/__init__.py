@@ -22,7 +22,7 @@ from typing import Iterable, Optional, Sequence
 __all__ = [
     "Basis", "Calendar", "Coming", "Convention", "Index", "Order", "Parts", "Reader", "Refusal", "Refused", "Request", "Rule", "Schedule", "Sums",
     "Unit", "WEEKENDS", "advance", "build",
-    "build_bytes", "coming", "compare", "difference", "imm_code", "imm_date", "is_imm_code", "is_imm_date", "make", "month_end", "next_imm_code",
+    "build_bytes", "coming", "compare", "difference", "holidays", "holidays_file", "imm_code", "imm_date", "is_imm_code", "is_imm_date", "make", "month_end", "next_imm_code",
     "next_imm_date", "next_twentieth", "next_weekday", "nth_weekday", "previous_twentieth", "refusal_name", "times",
     "weekday", "year_fraction", "year_parts", "year_report",
 ]
@@ -100,10 +100,11 @@ class Basis(IntEnum):
 
 
 class Refused(Exception):
-    """A refusal: `number` of document 01's table, and its `name`."""
+    """A refusal: `number` of document 01's table, and its `name`; of a calendar file also the `line`, 0 for the whole file."""
 
     def __init__(self, number: int) -> None:
         self.number = number
+        self.line: Optional[int] = None
         self.name = Refusal(number).name
         super().__init__(f"refused {number} {self.name}")
 
@@ -111,8 +112,11 @@ class Refused(Exception):
 # Saturday and Sunday; Monday is the lowest bit.
 WEEKENDS = 0x60
 
-# The most dates that a build makes.
+# The most dates that a build makes, and the most closed dates.
 MOST = 4096
+
+# The most bytes of a calendar file.
+FILE = 65536
 
 _u8, _u32, _i32, _i64, _size = ctypes.c_uint8, ctypes.c_uint32, ctypes.c_int32, ctypes.c_int64, ctypes.c_size_t
 _bytes = [ctypes.c_char_p, _size]
@@ -165,6 +169,8 @@ _PARAMETERS = {
     "reset": [ctypes.c_void_p],
     "feed": [ctypes.c_void_p, *_bytes, *_flags, *_days],
     "finish": [ctypes.c_void_p, *_flags, *_days],
+    "holidays_import": [*_bytes, *_days, *_days],
+    "holidays_export": [*_days, *_flags],
     "refusal_text": [_i64, *_flags],
 }
 
@@ -670,6 +676,27 @@ class Reader:
             mask=mask,
             closed=tuple(self._closed[:count]),
         )
+
+
+# ---- calendar files
+
+
+def holidays(file: bytes, room: int = MOST) -> list[date]:
+    """The days of a calendar file's all-day events (RFC 5545), ascending, as `Calendar` takes them."""
+    days, line = (_u32 * room)(), (_u32 * 1)()
+    try:
+        count = _ask("holidays_import", bytes(file), len(file), days, room, line, 1)
+    except Refused as refused:
+        refused.line = line[0]
+        raise
+    return [_date(day) for day in days[:count]]
+
+
+def holidays_file(dates: Iterable[date]) -> bytes:
+    """Closed dates in ascending order as a calendar file, which `holidays` reads back."""
+    file = (_u8 * FILE)()
+    size = _ask("holidays_export", *_list([day.toordinal() for day in dates]), file, FILE)
+    return bytes(memoryview(file)[:size])
 
 
 def _asked(effective, termination, tenor, unit, rule, convention, terminal, monthend, first, penultimate, calendar) -> tuple:

@@ -176,5 +176,14 @@ extern "C" {
         closed: *mut u32,
         closed_len: usize,
     ) -> i64;
+    pub fn heronspan_holidays_import(
+        file: *const u8,
+        file_len: usize,
+        days: *mut u32,
+        days_len: usize,
+        line: *mut u32,
+        line_len: usize,
+    ) -> i64;
+    pub fn heronspan_holidays_export(closed: *const u32, closed_len: usize, file: *mut u8, file_len: usize) -> i64;
     pub fn heronspan_refusal_text(answer: i64, text: *mut u8, text_len: usize) -> i64;
 }

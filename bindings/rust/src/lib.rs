@@ -891,3 +891,37 @@ mod tests {
         assert_eq!(text, [7, 8, 9]);
     }
 }
+
+/// A calendar file that is refused, and the line that it is refused for: 0 is the whole file.
+#[derive(Clone, Copy, Debug, PartialEq, Eq)]
+pub struct RefusedFile {
+    pub refusal: Refusal,
+    pub line: u32,
+}
+
+impl fmt::Display for RefusedFile {
+    fn fmt(&self, f: &mut fmt::Formatter<'_>) -> fmt::Result {
+        write!(f, "{} at line {}", self.refusal, self.line)
+    }
+}
+
+impl std::error::Error for RefusedFile {}
+
+/// The days of a calendar file's all-day events (RFC 5545), ascending, as a calendar takes them.
+pub fn holidays(file: &[u8]) -> Result<Vec<Date>, RefusedFile> {
+    let (mut days, mut line) = (vec![0; 4096], [0]);
+    let answer = unsafe {
+        ffi::heronspan_holidays_import(file.as_ptr(), file.len(), days.as_mut_ptr(), days.len(), line.as_mut_ptr(), line.len())
+    };
+    let count = told(answer).map_err(|refusal| RefusedFile { refusal, line: line[0] })?;
+    Ok(days[..count as usize].iter().map(|&day| Date(day)).collect())
+}
+
+/// Closed dates in ascending order as a calendar file, which `holidays` reads back.
+pub fn holidays_file(closed: &[Date]) -> Answer<Vec<u8>> {
+    let days: Vec<u32> = closed.iter().map(|date| date.0).collect();
+    let mut file = vec![0; 65_536];
+    let size = told(unsafe { ffi::heronspan_holidays_export(days.as_ptr(), days.len(), file.as_mut_ptr(), file.len()) })?;
+    file.truncate(size as usize);
+    Ok(file)
+}

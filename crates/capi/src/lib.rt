@@ -21,3 +21,5 @@ pub mod readers;
 pub mod refusals;
 // Year fractions.
 pub mod years;
+// Calendar files.
+pub mod files;

@@ -8,3 +8,6 @@ pub mod EventWays
 pub mod TurnWays
 pub mod WalkWays
 pub mod ImportWays
+pub mod OtherWays
+pub mod UsualWays
+pub mod NameWays

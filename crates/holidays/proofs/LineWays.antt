@@ -1,7 +1,7 @@
 -- Laws of the ways along an unfolded line and past it: one for each way through the code.
 -- Assumes nothing.
-use Prim.Native.Nat.{ℕ, suc, _+_, _≤_, _<_}
-use mathlib.Core.Path.{_≡_, refl, sym, ap, _∙_}
+use Prim.Native.Nat.{ℕ, suc, _+_, _-_, _≤_, _<_}
+use mathlib.Core.Path.{_≡_, refl, sym, ap, _∙_, subst}
 use mathlib.Core.Bool.{Bool, true, false, false≢true, _&&_, _||_}
 use mathlib.Core.List.{[], _∷_}
 use native.Mathlib.Numerals.{add-one}
@@ -15,7 +15,7 @@ use Rattle.holidays.specs.declared.lines.Step.the-variants.{End, Byte}
 use Rattle.holidays.specs.Words.{Bytes, LF, CR}
 use Rattle.holidays.specs.Lines.{startsWith}
 use Rattle.holidays.specs.Inner.Cut.{Cut, cutByte, cutStart, cutFrom, folds}
-use Rattle.holidays.specs.Inner.Along.{cutAt, ahead, Before, Inside, Took, stepped, Steps, Skipped}
+use Rattle.holidays.specs.Inner.Along.{cutAt, ahead, Before, Inside, Took, stepped, Steps, Skipping, Eight, Clears, Skipped}
 
 -- ---- one byte of a cut: only line feeds, and the byte behind each, count for what lies behind
 cut-byte : (n b : ℕ) (s : Bytes) → eqb b LF ≡ false → (cutFrom false n (b ∷ s) .rest ≡ cutFrom false n s .rest) × (cutFrom false n (b ∷ s) .number ≡ cutFrom false n s .number)
@@ -42,12 +42,6 @@ folds-some [] f = absurd (false≢true f)
 folds-some (b ∷ s) f = omega arith
 
 -- ---- what the loop keeps
-pub record Skipping (file : Bytes) (at line i n : ℕ) : Type 0 where
-  pub rest : cutFrom false n (drop i file) .rest ≡ cutFrom false line (drop at file) .rest
-  pub number : cutFrom false n (drop i file) .number ≡ cutFrom false line (drop at file) .number
-  pub before : Before file i n
-  pub later : at ≤ i
-
 pub skip-start : {file : Bytes} {at line : ℕ} → Before file at line → Skipping file at line at line
 skip-start b = record { rest = refl; number = refl; before = b; later = omega arith }
 
@@ -105,6 +99,29 @@ module _ {file : Bytes} {at line i n : ℕ} (k : Skipping file at line i n) wher
         before = k .before;
         later = k .later;
       }
+
+-- ---- eight bytes at a time
+pub not-clear : (file : Bytes) (at : ℕ) → Clears file at false
+not-clear file at = record { so = λ e. absurd (false≢true e) }
+
+pub clear-eight : (file : Bytes) (at : ℕ) → 8 ≤ length file → at ≤ length file - 8 → (getD file at 0 ≡ 10 → ⊥) → (getD file (at + 1) 0 ≡ 10 → ⊥) → (getD file (at + 2) 0 ≡ 10 → ⊥) → (getD file (at + 3) 0 ≡ 10 → ⊥) → (getD file (at + 4) 0 ≡ 10 → ⊥) → (getD file (at + 5) 0 ≡ 10 → ⊥) → (getD file (at + 6) 0 ≡ 10 → ⊥) → (getD file (at + 7) 0 ≡ 10 → ⊥) → Clears file at true
+clear-eight file at h l b₀ b₁ b₂ b₃ b₄ b₅ b₆ b₇ =
+    record { so = λ q. record { within = omega arith; b₀ = b₀; b₁ = b₁; b₂ = b₂; b₃ = b₃; b₄ = b₄; b₅ = b₅; b₆ = b₆; b₇ = b₇ } }
+
+module _ {file : Bytes} {at line n : ℕ} where
+  one-on : (i k : ℕ) → Skipping file at line (i + k) n → i + k < length file → (getD file (i + k) 0 ≡ 10 → ⊥) → Skipping file at line (i + (k + 1)) n
+  one-on i k s h o = let e : i + k + 1 ≡ i + (k + 1) = omega arith in subst (λ (j : ℕ). Skipping file at line j n) e (skip-byte s h o)
+
+  pub skip-eight : {i : ℕ} {r : Bool} → Skipping file at line i n → Clears file i r → r ≡ true → Skipping file at line (i + 8) n
+  skip-eight {i} s c t =
+      let e = c .so t in
+      let w : i + 8 ≤ length file = e .within in
+      one-on i 7 (one-on i 6 (one-on i 5 (one-on i 4 (one-on i 3 (one-on i 2 (one-on i 1 (skip-byte s (omega arith) (e .b₀)) (omega arith) (e .b₁)) (omega arith) (e .b₂)) (omega arith) (e .b₃)) (omega arith) (e .b₄)) (omega arith) (e .b₅)) (omega arith) (e .b₆)) (omega arith) (e .b₇)
+
+pub eight-within : {file : Bytes} {i : ℕ} {r : Bool} → Clears file i r → r ≡ true → i + 8 ≤ length file
+eight-within c t = c .so t .within
+
+pub ruleset strides = (skip-start, skip-eight, not-clear, clear-eight, needs)
 
 -- ---- a blank or a tab
 fold-at : (file : Bytes) (at : ℕ) → at < length file → folds (drop at file) ≡ (eqb (getD file at 0) 32 || eqb (getD file at 0) 9)

@@ -355,7 +355,7 @@ by-end broken inside room line c h = refl
 by-end (open-are qs) true room line c h = refl
 by-end (open-are qs) false room line c h = refl
 
-open-parts : (file stack : List ℕ) (n : ℕ) → (n ≡ 0 → ⊥) → afterOther (partsOf file stack n) ≡ open-are (partsOf file stack n)
+pub open-parts : (file stack : List ℕ) (n : ℕ) → (n ≡ 0 → ⊥) → afterOther (partsOf file stack n) ≡ open-are (partsOf file stack n)
 unfolding afterOther partsOf
 open-parts file stack zero z = absurd (z refl)
 open-parts file stack (suc n) z = refl

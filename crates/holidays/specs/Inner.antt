@@ -1,5 +1,6 @@
 pub mod Cut
 pub mod Along
+pub mod Others
 pub mod Letters
 pub mod Pieces
 pub mod Digits

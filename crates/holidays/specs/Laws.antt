@@ -6,6 +6,7 @@ pub mod Turns
 pub mod Exactly
 pub mod Renumber
 pub mod Folding
+pub mod Together
 pub mod Cycle
 pub mod Places
 pub mod Letters

@@ -1,7 +1,7 @@
 // The parameters of a line, and the place of its value.
 ghost use mathlib.Core.Path.{_≡_};
 ghost use Rattle.holidays.specs.Inner.Along.{Before};
-ghost use Rattle.holidays.specs.Inner.Parameters.{KindsOf, Joins, ReadsParameter, ReadsKinds, ReadsValue};
+ghost use Rattle.holidays.specs.Inner.Parameters.{KindsOf, Joins, ReadsParameter, ReadsKinds, ReadsValue, Usual};
 use crate::words;
 
 // What one parameter says of VALUE (0 where it is another), the mark behind it and the place behind that.
@@ -94,13 +94,75 @@ fn read_kinds(file: &[u8], at: usize, line: u32) -> Value
     }
 }
 
+// Whether VALUE=DATE and a colon stand there in capitals and without a fold, as in nearly every file.
+fn is_usual(file: &[u8], at: usize) -> bool
+    ensures { λ r. ⌜ Usual (now (file .entry)) at r ⌝ }
+{
+    if file.len() < 11 {
+        return false;
+    }
+    if file.len() - 11 < at {
+        return false;
+    }
+    if file[at] != 86 {
+        return false;
+    }
+    if file[at + 1] != 65 {
+        return false;
+    }
+    if file[at + 2] != 76 {
+        return false;
+    }
+    if file[at + 3] != 85 {
+        return false;
+    }
+    if file[at + 4] != 69 {
+        return false;
+    }
+    if file[at + 5] != 61 {
+        return false;
+    }
+    if file[at + 6] != 68 {
+        return false;
+    }
+    if file[at + 7] != 65 {
+        return false;
+    }
+    if file[at + 8] != 84 {
+        return false;
+    }
+    if file[at + 9] != 69 {
+        return false;
+    }
+    if file[at + 10] != 58 {
+        return false;
+    }
+    true
+}
+
+// From behind the first semicolon, where the parameters may be the usual one.
+fn read_usual(file: &[u8], at: usize, line: u32) -> Value
+    requires { ⌜ Before (now file) at line ⌝ }
+    ensures { λ r. ⌜ ReadsKinds (now (file .entry)) at line r ⌝ }
+{
+    if is_usual(file, at) {
+        return Value {
+            kind: 1,
+            found: true,
+            at: at + 11,
+            line,
+        };
+    }
+    read_kinds(file, at, line)
+}
+
 // From behind a name and the mark that ended it.
 pub(crate) fn read_value(file: &[u8], at: usize, line: u32, mark: u8) -> Value
     requires { ⌜ Before (now file) at line ⌝ }
     ensures { λ r. ⌜ ReadsValue (now (file .entry)) at line mark r ⌝ }
 {
     if mark == 59 {
-        return read_kinds(file, at, line);
+        return read_usual(file, at, line);
     }
     Value {
         kind: 0,

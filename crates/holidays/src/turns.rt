@@ -183,20 +183,14 @@ fn end_turn(file: &[u8], v: Value, st: State, stack: &[u32], room: usize, map: &
     Turn::Stops(refusal::ICAL)
 }
 
-// A line that is not blank.
-pub(crate) fn take_turn(
-    file: &[u8],
-    st: State,
-    stack: &mut [u32],
-    room: usize,
-    map: &mut [u32],
-) -> Turn
+// A line whose name may be one that counts.
+fn named_turn(file: &[u8], st: State, stack: &mut [u32], room: usize, map: &mut [u32]) -> Turn
     requires { ⌜ Before (now file) (st .at) (st .line) ⌝ }
     requires { ⌜ isBlank (ahead (now file) (st .at) (st .line)) ≡ false ⌝ }
     requires { ⌜ Keeps (now file) (now stack) room (now map) st ⌝ }
     ensures { λ r. ⌜ Turned (now (file .entry)) st (now (stack .entry)) room (now (map .entry)) r (now (stack .exit)) (now (map .exit)) ⌝ }
 {
-    let name = words::read_piece(file, st.at, st.line, false, false);
+    let name = words::read_name(file, st.at, st.line);
     if name.number == 35822894 {
         let v = parameters::read_value(file, name.at, name.line, name.mark);
         return begin_turn(file, v, st, stack);
@@ -212,4 +206,26 @@ pub(crate) fn take_turn(
         return event_turn(file, name, st);
     }
     Turn::Goes(st)
+}
+
+// A line that is not blank.
+pub(crate) fn take_turn(
+    file: &[u8],
+    st: State,
+    stack: &mut [u32],
+    room: usize,
+    map: &mut [u32],
+) -> Turn
+    requires { ⌜ Before (now file) (st .at) (st .line) ⌝ }
+    requires { ⌜ isBlank (ahead (now file) (st .at) (st .line)) ≡ false ⌝ }
+    requires { ⌜ Keeps (now file) (now stack) room (now map) st ⌝ }
+    ensures { λ r. ⌜ Turned (now (file .entry)) st (now (stack .entry)) room (now (map .entry)) r (now (stack .exit)) (now (map .exit)) ⌝ }
+{
+    if words::is_other(file, st.at) {
+        if st.depth == 0 {
+            return Turn::Stops(refusal::ICAL);
+        }
+        return Turn::Goes(st);
+    }
+    named_turn(file, st, stack, room, map)
 }

@@ -1,9 +1,10 @@
 // The lines of a file, one after the other.
-ghost use Rattle.holidays.specs.Inner.Along.{Before};
+ghost use Rattle.holidays.specs.Inner.Along.{Before, ahead};
 ghost use Rattle.holidays.specs.Inner.Turns.{Keeps};
 ghost use Rattle.holidays.specs.Inner.Walking.{Advances, Lined, Finishes, Walking, Walks, Starts, Cleared};
 ghost use Rattle.holidays.specs.Inner.Days.{WORDS};
 ghost use Rattle.holidays.specs.Import.{sizeOk};
+ghost use Rattle.holidays.specs.Nesting.{isBlank};
 ghost use lib.ListN.{length};
 ghost use mathlib.Core.Path.{_≡_};
 ghost use mathlib.Core.Bool.{true, false, not, _||_};
@@ -37,12 +38,20 @@ fn advance(file: &[u8], s: State) -> State
 }
 
 // One line, blank or not, and on to the next.
-fn one_line(file: &[u8], st: State, stack: &mut [u32], room: usize, map: &mut [u32]) -> Turn
+fn one_line(
+    file: &[u8],
+    st: State,
+    blank: bool,
+    stack: &mut [u32],
+    room: usize,
+    map: &mut [u32],
+) -> Turn
     requires { ⌜ Before (now file) (st .at) (st .line) ⌝ }
+    requires { ⌜ blank ≡ isBlank (ahead (now file) (st .at) (st .line)) ⌝ }
     requires { ⌜ Keeps (now file) (now stack) room (now map) st ⌝ }
     ensures { λ r. ⌜ Lined (now (file .entry)) st (now (stack .entry)) room (now (map .entry)) r (now (stack .exit)) (now (map .exit)) ⌝ }
 {
-    if dates::is_over(file, st.at, st.line) {
+    if blank {
         return Turn::Goes(advance(file, st));
     }
     match turns::take_turn(file, st, stack, room, map) {
@@ -80,7 +89,7 @@ pub(crate) fn read_lines(
     loop {
         let line = st.line;
         let blank = dates::is_over(file, st.at, st.line);
-        match one_line(file, st, stack, room, map) {
+        match one_line(file, st, blank, stack, room, map) {
             Turn::Stops(n) => {
                 return Ended::Refused(n, line);
             }

@@ -1,5 +1,6 @@
 // Words of a line: read as numbers, or two of them compared, where they stand in the file.
 ghost use mathlib.Core.Path.{_≡_};
+ghost use mathlib.Core.Bool.{false};
 ghost use Rattle.holidays.specs.Words.{upper, uppers, equal};
 ghost use Rattle.holidays.specs.Content.{turned};
 ghost use Rattle.holidays.specs.Nesting.{isBlank};
@@ -7,6 +8,7 @@ ghost use lib.Dec.{eqb};
 ghost use Rattle.holidays.specs.Inner.Letters.{Lettered, pack, packs};
 ghost use Rattle.holidays.specs.Inner.Pieces.{isStop, ReadsPiece};
 ghost use Rattle.holidays.specs.Inner.Along.{Before, ahead};
+ghost use Rattle.holidays.specs.Inner.Others.{Others, Stands};
 use crate::lines;
 use crate::lines::Step;
 
@@ -116,6 +118,61 @@ pub(crate) fn read_piece(file: &[u8], at: usize, line: u32, equals: bool, quoted
     }
 }
 
+// Whether these bytes stand there.
+fn stands(file: &[u8], at: usize, word: &[u8]) -> bool
+    ensures { λ r. ⌜ Stands (now (file .entry)) at (now (word .entry)) r ⌝ }
+{
+    if file.len() < word.len() {
+        return false;
+    }
+    if file.len() - word.len() < at {
+        return false;
+    }
+    let mut k = 0;
+    while k < word.len() {
+        if file[at + k] != word[k] {
+            return false;
+        }
+        k += 1;
+    }
+    true
+}
+
+fn usual(number: u64, mark: u8, at: usize, line: u32) -> Piece
+    ensures { λ r. ⌜ r ≡ record { number = number; mark = mark; quoted = false; at = at; line = line } ⌝ }
+{
+    Piece {
+        number,
+        mark,
+        quoted: false,
+        at,
+        line,
+    }
+}
+
+// The name of a line and its mark: the usual ones are compared at once.
+pub(crate) fn read_name(file: &[u8], at: usize, line: u32) -> Piece
+    requires { ⌜ Before (now file) at line ⌝ }
+    ensures { λ r. ⌜ ReadsPiece (now (file .entry)) at line false false r ⌝ }
+{
+    if stands(file, at, b"DTSTART;") {
+        return usual(39346374228, 59, at + 8, line);
+    }
+    if stands(file, at, b"DTEND;") {
+        return usual(38409668, 59, at + 6, line);
+    }
+    if stands(file, at, b"BEGIN:") {
+        return usual(35822894, 58, at + 6, line);
+    }
+    if stands(file, at, b"END:") {
+        return usual(38340, 58, at + 4, line);
+    }
+    if stands(file, at, b"DTSTAMP:") {
+        return usual(39346374064, 58, at + 8, line);
+    }
+    read_piece(file, at, line, false, false)
+}
+
 // The number of the word from a place to the line's end.
 pub(crate) fn word_at(file: &[u8], at: usize, line: u32) -> u64
     requires { ⌜ Before (now file) at line ⌝ }
@@ -151,6 +208,25 @@ fn capital(b: u8) -> u8
         return b - 32;
     }
     b
+}
+
+// Whether a byte stands there with which no name that counts starts: none of B, D, E and R, and no line end.
+pub(crate) fn is_other(file: &[u8], at: usize) -> bool
+    ensures { λ r. ⌜ Others (now (file .entry)) at r ⌝ }
+{
+    if file.len() <= at {
+        return false;
+    }
+    let c = capital(file[at]);
+    match c {
+        10 => false,
+        13 => false,
+        66 => false,
+        68 => false,
+        69 => false,
+        82 => false,
+        _ => true,
+    }
 }
 
 fn is_end(file: &[u8], at: usize) -> bool

@@ -3,9 +3,9 @@
 -- Assumes nothing.
 use Prim.Native.Nat.{ℕ, _+_, _≤_, _<_}
 use mathlib.Core.Path.{_≡_}
-use mathlib.Core.Bool.{false}
+use mathlib.Core.Bool.{Bool, true, false}
 use mathlib.Core.List.{[], _∷_}
-use lib.ListN.{length, drop}
+use lib.ListN.{length, drop, getD}
 use Rattle.holidays.specs.declared.lines.Place.{Place}
 use Rattle.holidays.specs.declared.lines.Step.{Step}
 use Rattle.holidays.specs.declared.lines.Step.the-variants.{End, Byte}
@@ -46,6 +46,28 @@ stepped file at line (Byte b i n) = Took file at line b i n
 
 pub record Steps (file : Bytes) (at line : ℕ) (r : Step) : Type 0 where
   pub so : stepped file at line r
+
+-- ---- along the line: as far as before, what lies behind it is the same
+pub record Skipping (file : Bytes) (at line i n : ℕ) : Type 0 where
+  pub rest : cutAt file i n .rest ≡ cutAt file at line .rest
+  pub number : cutAt file i n .number ≡ cutAt file at line .number
+  pub before : Before file i n
+  pub later : at ≤ i
+
+-- eight bytes, none a line feed
+pub record Eight (file : Bytes) (at : ℕ) : Type 0 where
+  pub within : at + 8 ≤ length file
+  pub b₀ : getD file at 0 ≡ 10 → ⊥
+  pub b₁ : getD file (at + 1) 0 ≡ 10 → ⊥
+  pub b₂ : getD file (at + 2) 0 ≡ 10 → ⊥
+  pub b₃ : getD file (at + 3) 0 ≡ 10 → ⊥
+  pub b₄ : getD file (at + 4) 0 ≡ 10 → ⊥
+  pub b₅ : getD file (at + 5) 0 ≡ 10 → ⊥
+  pub b₆ : getD file (at + 6) 0 ≡ 10 → ⊥
+  pub b₇ : getD file (at + 7) 0 ≡ 10 → ⊥
+
+pub record Clears (file : Bytes) (at : ℕ) (r : Bool) : Type 0 where
+  pub so : r ≡ true → Eight file at
 
 -- ---- past the line
 pub record Skipped (file : Bytes) (at line : ℕ) (r : Place) : Type 0 where

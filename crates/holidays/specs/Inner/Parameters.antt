@@ -1,10 +1,11 @@
 -- What the code's ways through parameters promise: what they say of VALUE, and where the line's value starts.
 -- Assumes nothing.
-use Prim.Native.Nat.{ℕ, _<_}
+use Prim.Native.Nat.{ℕ, _+_, _≤_, _<_}
 use mathlib.Core.Path.{_≡_}
 use mathlib.Core.Bool.{Bool, true, false}
 use mathlib.Core.List.{List, [], _∷_}
 use lib.Dec.{eqb}
+use lib.ListN.{length, getD}
 use Rattle.holidays.specs.declared.parameters.Parameter as code
 use Rattle.holidays.specs.declared.parameters.Value as found
 use Rattle.holidays.specs.Words.{Bytes, pick, spells, COLON, SEMICOLON}
@@ -64,6 +65,24 @@ pub record ReadsKinds (file : Bytes) (at line : ℕ) (r : found.Value) : Type 0 
   pub kind : kindOfNumber (r .kind) ≡ kindIn (contentFrom false (ahead file at line) .name ∷ contentFrom false (ahead file at line) .parameters)
   pub said : contentFrom false (ahead file at line) .said ≡ saidAt (r .found) (ahead file (r .at) (r .line))
   pub inside : Inside file at line (r .at) (r .line)
+
+-- VALUE=DATE and a colon, in capitals and without a fold
+pub record Eleven (file : Bytes) (at : ℕ) : Type 0 where
+  pub within : at + 11 ≤ length file
+  pub b₀ : getD file at 0 ≡ 86
+  pub b₁ : getD file (at + 1) 0 ≡ 65
+  pub b₂ : getD file (at + 2) 0 ≡ 76
+  pub b₃ : getD file (at + 3) 0 ≡ 85
+  pub b₄ : getD file (at + 4) 0 ≡ 69
+  pub b₅ : getD file (at + 5) 0 ≡ 61
+  pub b₆ : getD file (at + 6) 0 ≡ 68
+  pub b₇ : getD file (at + 7) 0 ≡ 65
+  pub b₈ : getD file (at + 8) 0 ≡ 84
+  pub b₉ : getD file (at + 9) 0 ≡ 69
+  pub b₁₀ : getD file (at + 10) 0 ≡ 58
+
+pub record Usual (file : Bytes) (at : ℕ) (r : Bool) : Type 0 where
+  pub so : r ≡ true → Eleven file at
 
 pub record ReadsValue (file : Bytes) (at line mark : ℕ) (r : found.Value) : Type 0 where
   pub kind : kindOfNumber (r .kind) ≡ kindIn (tailOf mark (ahead file at line) .parameters)

@@ -65,12 +65,12 @@ module _ (f : ℕ → ℕ) where
   end-as last [] = refl
   end-as last (p ∷ ps) = refl
 
-  nested-from-as : (last : ℕ) (ls : List Line) (ps : Parts) → nestedFrom (f last) (lines-as ls) ps ≡ places-as (nestedFrom last ls ps)
+  pub nested-from-as : (last : ℕ) (ls : List Line) (ps : Parts) → nestedFrom (f last) (lines-as ls) ps ≡ places-as (nestedFrom last ls ps)
   unfolding nestedFrom lines-as
   nested-from-as last [] ps = end-as last ps
   nested-from-as last (l ∷ ls) ps = line-onwards (isBlank (l .bytes)) l ps (nestedFrom last ls) (nestedFrom (f last) (lines-as ls)) (nested-from-as last ls)
 
-  blank-as : (ls : List Line) → allBlank (lines-as ls) ≡ allBlank ls
+  pub blank-as : (ls : List Line) → allBlank (lines-as ls) ≡ allBlank ls
   unfolding allBlank lines-as
   blank-as [] = refl
   blank-as (l ∷ ls) = ap (λ (b : Bool). isBlank (l .bytes) && b) (blank-as ls)
@@ -130,7 +130,7 @@ module _ (f : ℕ → ℕ) where
   place-as true p w on more h = name-as (p .name) (p .number) (p .content) w on more h
   place-as false p w on more h = h w
 
-  events-from-as : (ps : Course Placed) (w : Draft) → eventsFrom (places-as ps) w ≡ events-as (eventsFrom ps w)
+  pub events-from-as : (ps : Course Placed) (w : Draft) → eventsFrom (places-as ps) w ≡ events-as (eventsFrom ps w)
   unfolding eventsFrom places-as events-as
   events-from-as ended w = refl
   events-from-as (refusedAt number line) w = refl

@@ -114,7 +114,7 @@ Has ended d = ⊥
 Has (refusedAt number line) d = ⊥
 Has (next e es) d = InEvent e d ⊎ Has es d
 
-event-in : (e : Event) (xs : List ℕ) (d : ℕ) → d ∈ withEvent e xs → InEvent e d ⊎ (d ∈ xs)
+pub event-in : (e : Event) (xs : List ℕ) (d : ℕ) → d ∈ withEvent e xs → InEvent e d ⊎ (d ∈ xs)
 unfolding withEvent
 event-in e xs d h =
     ⊎-elim
@@ -122,15 +122,15 @@ event-in e xs d h =
     (λ (i : d ∈ xs). inr i)
     (add-in (e .past - e .first) (e .first) xs d h)
 
-event-has : (e : Event) (xs : List ℕ) (d : ℕ) → InEvent e d → d ∈ withEvent e xs
+pub event-has : (e : Event) (xs : List ℕ) (d : ℕ) → InEvent e d → d ∈ withEvent e xs
 unfolding withEvent
 event-has e xs d h = add-has (e .past - e .first) (e .first) xs d (h .0) (omega arith)
 
-event-keeps : (e : Event) (xs : List ℕ) (d : ℕ) → d ∈ xs → d ∈ withEvent e xs
+pub event-keeps : (e : Event) (xs : List ℕ) (d : ℕ) → d ∈ xs → d ∈ withEvent e xs
 unfolding withEvent
 event-keeps e xs d h = add-keeps (e .past - e .first) (e .first) xs d h
 
-event-ascends : (e : Event) (xs : List ℕ) → Ascending xs → Ascending (withEvent e xs)
+pub event-ascends : (e : Event) (xs : List ℕ) → Ascending xs → Ascending (withEvent e xs)
 unfolding withEvent
 event-ascends e xs h = add-ascends (e .past - e .first) (e .first) xs h
 

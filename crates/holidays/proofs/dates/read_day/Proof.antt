@@ -43,7 +43,16 @@ number-of-requires c κs = search days-of
 
 returns-5 : tie.Need-returns-5
 returns-5 c =
-    day-read (c .before .before .before .before .before .before .before .before .before .before .before .before .before .before .before .before .pre) (c .before .before .before .before .before .before .before .before .before .before .before .before .before .before .read-pair .ensures) (c .before .before .before .before .before .before .before .before .before .before .before .before .if1 .left) (c .before .before .before .before .before .before .before .before .before .before .before .read-pair2 .ensures) (c .before .before .before .before .before .before .before .before .before .if2 .left) (c .before .before .before .before .before .before .before .before .read-pair3 .ensures) (c .before .before .before .before .before .before .if3 .left) (c .before .before .before .before .before .read-pair4 .ensures) (c .before .before .before .if4 .left) (c .number-of .ensures)
+    let else4 : tie.Else4 = search in
+    let read-pair4 : tie.After-read-pair4 = search in
+    let else3 : tie.Else3 = search in
+    let read-pair3 : tie.After-read-pair3 = search in
+    let else2 : tie.Else2 = search in
+    let read-pair2 : tie.After-read-pair2 = search in
+    let else1 : tie.Else1 = search in
+    let read-pair : tie.After-read-pair = search in
+    let start : tie.Start = search in
+    day-read (start .pre) (read-pair .read-pair .ensures) (else1 .if1 .left) (read-pair2 .read-pair2 .ensures) (else2 .if2 .left) (read-pair3 .read-pair3 .ensures) (else3 .if3 .left) (read-pair4 .read-pair4 .ensures) (else4 .if4 .left) (c .number-of .ensures)
 
 pub read-day-spec : {M : Type 1} → statement M
 read-day-spec =

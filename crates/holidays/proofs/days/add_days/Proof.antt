@@ -41,7 +41,11 @@ loop-less-2 : tie.Need-loop-less-2 Inv-loop μ-loop
 loop-less-2 c = search addings
 
 loop-again-2 : tie.Need-loop-again-2 Inv-loop μ-loop
-loop-again-2 c = adding-old (c .before .before .before .before .before .before .before .loop .inv) (c .before .before .before .before .before .before .loop-test .taken) (c .before .is-set .ensures) (c .if2 .taken)
+loop-again-2 c =
+    let is-set : tie.After-is-set Inv-loop μ-loop = search in
+    let turn : tie.In-loop Inv-loop μ-loop = search in
+    let top : tie.At-loop Inv-loop μ-loop = search in
+    adding-old (top .loop .inv) (turn .loop-test .taken) (is-set .is-set .ensures) (c .if2 .taken)
 
 same-length : tie.Need-same-length Inv-loop μ-loop
 same-length c = search addings
@@ -51,7 +55,11 @@ returns c = search addings
 
 put-requires : tie.Need-put-requires Inv-loop μ-loop
 put-requires c κs =
-    (adding-long (c .before .before .before .before .before .before .before .before .before .loop .inv), (adding-day (c .before .before .before .before .before .before .before .before .before .loop .inv) (c .before .before .before .before .before .before .before .before .loop-test .taken), adding-clear (c .before .before .before .before .before .before .before .before .before .loop .inv) (c .before .before .before .before .before .before .before .before .loop-test .taken) (c .before .before .before .is-set .ensures) (c .before .before .if2 .left)))
+    let else2 : tie.Else2 Inv-loop μ-loop = search in
+    let is-set : tie.After-is-set Inv-loop μ-loop = search in
+    let turn : tie.In-loop Inv-loop μ-loop = search in
+    let top : tie.At-loop Inv-loop μ-loop = search in
+    (adding-long (top .loop .inv), (adding-day (top .loop .inv) (turn .loop-test .taken), adding-clear (top .loop .inv) (turn .loop-test .taken) (is-set .is-set .ensures) (else2 .if2 .left)))
 
 add-n : tie.Need-add-n Inv-loop μ-loop
 add-n c = search addings
@@ -64,7 +72,13 @@ loop-less-3 c = search addings
 
 loop-again-3 : tie.Need-loop-again-3 Inv-loop μ-loop
 loop-again-3 c =
-    adding-new (c .before .before .before .before .before .before .before .before .before .before .before .before .loop .inv) (c .before .before .before .before .before .before .before .before .before .before .before .loop-test .taken) (c .before .before .before .before .before .before .is-set .ensures) (c .before .before .before .before .before .if2 .left) (c .before .before .before .before .if3 .left) (c .before .before .put .ensures)
+    let put : tie.After-put Inv-loop μ-loop = search in
+    let else3 : tie.Else3 Inv-loop μ-loop = search in
+    let else2 : tie.Else2 Inv-loop μ-loop = search in
+    let is-set : tie.After-is-set Inv-loop μ-loop = search in
+    let turn : tie.In-loop Inv-loop μ-loop = search in
+    let top : tie.At-loop Inv-loop μ-loop = search in
+    adding-new (top .loop .inv) (turn .loop-test .taken) (is-set .is-set .ensures) (else2 .if2 .left) (else3 .if3 .left) (put .put .ensures)
 
 same-length-2 : tie.Need-same-length-2 Inv-loop μ-loop
 same-length-2 c = search addings

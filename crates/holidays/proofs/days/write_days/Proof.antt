@@ -53,7 +53,11 @@ loop-less-2 : tie.Need-loop-less-2 Inv-loop μ-loop
 loop-less-2 c = search writings
 
 loop-again-2 : tie.Need-loop-again-2 Inv-loop μ-loop
-loop-again-2 c = writing-day (c .before .before .before .before .before .loop .inv) (c .before .before .before .before .loop-test .taken) (c .before .is-set .ensures) (c .if2 .taken) refl
+loop-again-2 c =
+    let is-set : tie.After-is-set Inv-loop μ-loop = search in
+    let turn : tie.In-loop Inv-loop μ-loop = search in
+    let top : tie.At-loop Inv-loop μ-loop = search in
+    writing-day (top .loop .inv) (turn .loop-test .taken) (is-set .is-set .ensures) (c .if2 .taken) refl
 
 add-o-3 : tie.Need-add-o-3 Inv-loop μ-loop
 add-o-3 c = search writings

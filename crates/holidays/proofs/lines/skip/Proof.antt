@@ -2,18 +2,19 @@
 -- Assumes nothing.
 use Prim.Native.Nat.{_-_}
 use lib.ListN.{length}
-use Rattle.holidays.proofs.LineWays.{Skipping, skip-fold, skip-end, skips}
+use Rattle.holidays.specs.Inner.Along.{Skipping}
+use Rattle.holidays.proofs.LineWays.{skip-fold, skip-end, skips}
 use Rattle.holidays.proofs.lines.skip.Statement.{statement}
 use Rattle.holidays.proofs.lines.skip.Tie as tie
-use Rattle.holidays.proofs.lines.skip.Reads as reads
-use Rattle.holidays.proofs.lines.skip.Lts as lts
-use Rattle.holidays.proofs.lines.is_fold.Reads as is-fold-reads
 
 abbrev Inv-loop : tie.InvT-loop
 Inv-loop file at line i₀ n₀ i n = Skipping file at line i n
 
 abbrev μ-loop : tie.MeasureT-loop
 μ-loop file at line i₀ n₀ i n = length file - i
+
+stride-requires : tie.Need-stride-requires Inv-loop μ-loop
+stride-requires c κs = search skips
 
 loop-holds : tie.Need-loop-holds Inv-loop μ-loop
 loop-holds c = search skips
@@ -38,7 +39,11 @@ loop-less c = search skips
 
 loop-again : tie.Need-loop-again Inv-loop μ-loop
 loop-again c =
-    skip-fold (c .before .before .before .before .before .loop .inv) (c .before .before .before .before .loop-test .taken) (c .before .before .if1 .taken) (c .before .is-fold .ensures) (c .if2 .taken)
+    let is-fold : tie.After-is-fold Inv-loop μ-loop = search in
+    let then1 : tie.Then1 Inv-loop μ-loop = search in
+    let turn : tie.In-loop Inv-loop μ-loop = search in
+    let top : tie.At-loop Inv-loop μ-loop = search in
+    skip-fold (top .loop .inv) (turn .loop-test .taken) (then1 .if1 .taken) (is-fold .is-fold .ensures) (c .if2 .taken)
 
 add-t12 : tie.Need-add-t12 Inv-loop μ-loop
 add-t12 c = search skips
@@ -48,7 +53,11 @@ add-t13 c = search skips
 
 returns : tie.Need-returns Inv-loop μ-loop
 returns c =
-    skip-end (c .before .before .before .before .before .loop .inv) (c .before .before .before .before .loop-test .taken) (c .before .before .if1 .taken) (c .before .is-fold .ensures) (c .if2 .left)
+    let is-fold : tie.After-is-fold Inv-loop μ-loop = search in
+    let then1 : tie.Then1 Inv-loop μ-loop = search in
+    let turn : tie.In-loop Inv-loop μ-loop = search in
+    let top : tie.At-loop Inv-loop μ-loop = search in
+    skip-end (top .loop .inv) (turn .loop-test .taken) (then1 .if1 .taken) (is-fold .is-fold .ensures) (c .if2 .left)
 
 add-i-2 : tie.Need-add-i-2 Inv-loop μ-loop
 add-i-2 c = search skips
@@ -68,6 +77,7 @@ skip-spec =
     (tie.spec
     Inv-loop
     μ-loop
+    stride-requires
     loop-holds
     shared-slice-read-if1
     add-is-fold

@@ -5,10 +5,9 @@ use Rattle.holidays.proofs.parameters.read_value.Statement.{statement}
 use Rattle.holidays.proofs.parameters.read_value.Tie as tie
 use Rattle.holidays.proofs.parameters.read_value.Reads as reads
 use Rattle.holidays.proofs.parameters.read_value.Lts as lts
-use Rattle.holidays.proofs.parameters.read_kinds.Reads as read-kinds-reads
 
-read-kinds-requires : tie.Need-read-kinds-requires
-read-kinds-requires c κs = search values-are
+read-usual-requires : tie.Need-read-usual-requires
+read-usual-requires c κs = search values-are
 
 returns : tie.Need-returns
 returns c = search values-are
@@ -17,4 +16,4 @@ returns-2 : tie.Need-returns-2
 returns-2 c = search values-are
 
 pub read-value-spec : {M : Type 1} → statement M
-read-value-spec = tie.close (tie.spec read-kinds-requires returns returns-2)
+read-value-spec = tie.close (tie.spec read-usual-requires returns returns-2)

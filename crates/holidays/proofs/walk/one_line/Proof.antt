@@ -3,14 +3,6 @@
 use Rattle.holidays.proofs.WalkWays.{line-ways}
 use Rattle.holidays.proofs.walk.one_line.Statement.{statement}
 use Rattle.holidays.proofs.walk.one_line.Tie as tie
-use Rattle.holidays.proofs.walk.one_line.Reads as reads
-use Rattle.holidays.proofs.walk.one_line.Lts as lts
-use Rattle.holidays.proofs.dates.is_over.Reads as is-over-reads
-use Rattle.holidays.proofs.turns.take_turn.Reads as take-turn-reads
-use Rattle.holidays.proofs.walk.advance.Reads as advance-reads
-
-is-over-requires : tie.Need-is-over-requires
-is-over-requires c κs = search line-ways
 
 advance-requires : tie.Need-advance-requires
 advance-requires c κs = search line-ways
@@ -52,7 +44,6 @@ pub one-line-spec : {M : Type 1} → statement M
 one-line-spec =
     tie.close
     (tie.spec
-    is-over-requires
     advance-requires
     returns
     take-turn-requires

@@ -52,11 +52,17 @@ finish-requires c κs = search walk-ways
 
 same-length-3 : tie.Need-same-length-3 Inv-loop μ-loop
 same-length-3 c =
-    omega (arith, c .before .before .before .before .before .before .before .before .before .before .stack .given, c .before .before .before .before .before .before .before .before .before .before .before .before .before .before .before .loop .inv .keeps .nested .long, c .before .before .before .before .before .before .before .before .before .before .before .before .before .before .before .before .before .before .before .pre .keeps .nested .long)
+    let stack : tie.After-stack Inv-loop μ-loop = search in
+    let top : tie.At-loop Inv-loop μ-loop = search in
+    let start : tie.Start Inv-loop μ-loop = search in
+    omega (arith, stack .stack .given, top .loop .inv .keeps .nested .long, start .pre .keeps .nested .long)
 
 same-length-4 : tie.Need-same-length-4 Inv-loop μ-loop
 same-length-4 c =
-    omega (arith, c .before .before .before .before .before .before .before .before .map .given, c .before .before .before .before .before .before .before .before .before .before .before .before .before .before .before .loop .inv .keeps .counted .long, c .before .before .before .before .before .before .before .before .before .before .before .before .before .before .before .before .before .before .before .pre .keeps .counted .long)
+    let map : tie.After-map Inv-loop μ-loop = search in
+    let top : tie.At-loop Inv-loop μ-loop = search in
+    let start : tie.Start Inv-loop μ-loop = search in
+    omega (arith, map .map .given, top .loop .inv .keeps .counted .long, start .pre .keeps .counted .long)
 
 returns-2 : tie.Need-returns-2 Inv-loop μ-loop
 returns-2 c = search walk-ways
