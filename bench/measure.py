@@ -2,8 +2,10 @@
 """Asks four programs the same requests, compares their answers, and then times them and counts their instructions.
 
     bench/measure.py [PASSES]
+    bench/measure.py --instructions [BEFORE]
 
-bench/run builds the programs and calls this. It writes bench/results.md and the plots beside it.
+bench/run builds the programs and calls this. It writes bench/results.md and the plots beside it. --instructions counts those of our builds
+alone, in seconds, under other rules too, and prints them; BEFORE is what it printed of an earlier library, for the figures before.
 """
 import os
 import random
@@ -54,6 +56,20 @@ REQUESTS = {
     "5 years weekly": f"{START} {day(2030, 1, 15)} W 1 1 2 2 0 0 0",
     "1 year daily": f"{START} {day(2026, 1, 15)} D 1 1 2 2 0 0 0",
     "CDS2015, 10 years": f"{day(2025, 3, 20)} {day(2035, 6, 20)} M 3 9 1 0 0 0 0",
+}
+# Counted beside the others by --instructions.
+MORE = {
+    "Forward, 30 years quarterly": f"{START} {day(2055, 1, 15)} M 3 2 2 2 0 0 0",
+    "Forward, 5 years weekly": f"{START} {day(2030, 1, 15)} W 1 2 2 2 0 0 0",
+    "30 years quarterly, end of month": f"{day(2025, 1, 31)} {day(2055, 1, 31)} M 3 1 2 2 1 0 0",
+    "30 years quarterly, both anchors": f"{START} {day(2055, 1, 15)} M 3 1 2 2 0 {day(2025, 3, 15)} {day(2054, 12, 15)}",
+    "30 years quarterly, Unadjusted": f"{START} {day(2055, 1, 15)} M 3 1 0 0 0 0 0",
+    "Twentieth, 30 years quarterly": f"{START} {day(2055, 1, 15)} M 3 3 2 2 0 0 0",
+    "ThirdWednesday, 30 years quarterly": f"{START} {day(2055, 1, 15)} M 3 5 2 2 0 0 0",
+    "OldCDS, 30 years quarterly": f"{START} {day(2055, 1, 15)} M 3 7 2 2 0 0 0",
+    "Zero": f"{START} {day(2055, 1, 15)} Y 0 0 2 2 0 0 0",
+    "Forward weekly, 4,096 dates": f"{START} {START + 7 * 4095} W 1 2 1 1 0 0 0",
+    "weekly, 4,096 dates": f"{START} {START + 7 * 4095} W 1 1 1 1 0 0 0",
 }
 MONTH_END = day(2025, 5, 31)
 IMM = day(2025, 3, 19)
@@ -127,10 +143,10 @@ def counted(name, lines):
 
 
 def fixed_cost(passes):
-    """Time and instructions of setting the two working lists to zero, by themselves."""
+    """Time and instructions of setting the three working lists to zero, by themselves."""
     said = [run("plain C", ["--time", str(ROUNDS)], ["lists"])[0].split() for _ in range(passes)]
     median = statistics.median(float(words[0]) for words in said)
-    return (f"Setting two lists of that size to zero ({int(said[0][2]):,} bytes) takes {figure(median)} by itself, "
+    return (f"Setting three lists of that size to zero ({int(said[0][2]):,} bytes) takes {figure(median)} by itself, "
             f"{counted('plain C', ['lists'])[0]:,} instructions.")
 
 
@@ -240,7 +256,30 @@ def plot_table(across, points):
     return lines + [f"| {x:,} | {cells(row, figure)} |" for x, row in points]
 
 
+def print_instructions(before):
+    """Our builds' instructions, beside those of an earlier table."""
+    asked = {**BUILDS, **{(request, name): f"build {words} {table}" for request, words in MORE.items() for name, table in CALENDARS.items()}}
+    lines = list(asked.values())
+    counts = [answer.split()[4] for answer in run("ours", ["--once"], lines)]
+    executed = counted("ours", lines)
+    print("| request | calendar | dates | instructions |" + (" before | times before |" if before else ""))
+    print("|---|---|---|---|" + ("---|---|" if before else ""))
+    for at, key in enumerate(asked):
+        earlier = before.get(key)
+        more = f" {earlier:,} | {executed[at] / earlier:.2f} |" if earlier else " - | - |" if before else ""
+        print(f"| {' | '.join(key)} | {counts[at]} | {executed[at]:,} |{more}")
+
+
+def read_instructions(path):
+    with open(path, encoding="utf-8") as file:
+        rows = [[cell.strip() for cell in line.split("|")[1:]] for line in file if line.startswith("| ")]
+    return {(row[0], row[1]): int(row[3].replace(",", "")) for row in rows if row[2].isdigit()}
+
+
 def main():
+    if sys.argv[1:2] == ["--instructions"]:
+        print_instructions(read_instructions(sys.argv[2]) if len(sys.argv) > 2 else {})
+        return
     passes = int(sys.argv[1]) if len(sys.argv) > 1 else 15
     start = time.time()
 

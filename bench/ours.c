@@ -16,7 +16,7 @@ struct asked {
     int64_t answer;
 };
 
-static uint32_t dates[PLACES], record[RECORD];
+static uint32_t dates[PLACES], unadjusted[PLACES], record[RECORD];
 static uint8_t flags[PLACES];
 
 static void build(void *with)
@@ -25,7 +25,7 @@ static void build(void *with)
     struct build *b = &a->build;
     a->answer = heronspan_build(b->effective, b->termination, b->tenor, b->unit, b->rule, b->convention, b->terminal,
                                 b->monthend, b->first, b->penultimate, b->calendar.mask, b->calendar.closed,
-                                b->calendar.count, dates, PLACES, flags, PLACES, record, RECORD);
+                                b->calendar.count, dates, PLACES, flags, PLACES, unadjusted, PLACES, record, RECORD);
 }
 
 static void coming(void *with)

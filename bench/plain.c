@@ -72,7 +72,7 @@ static uint32_t adjusted(const struct calendar *c, uint32_t number, int conventi
     return found;
 }
 
-static uint32_t dates[PLACES];
+static uint32_t dates[PLACES], unadjusted[PLACES];
 static uint8_t flags[PLACES];
 
 static uint32_t months_back(struct civil seed, int months)
@@ -88,18 +88,20 @@ static long merged(long n)
         if (n >= 3)
             flags[n - 3] = dates[n - 2] == dates[n - 1];
         dates[n - 2] = dates[n - 1];
+        unadjusted[n - 2] = unadjusted[n - 1];
         n--;
     }
     if (n >= 2 && dates[1] <= dates[0]) {
         flags[1] = dates[1] == dates[0];
         memmove(dates + 1, dates + 2, (size_t)(n - 2) * sizeof *dates);
+        memmove(unadjusted + 1, unadjusted + 2, (size_t)(n - 2) * sizeof *unadjusted);
         memmove(flags, flags + 1, (size_t)(n - 2));
         n--;
     }
     return n;
 }
 
-/* The list grows from the far end of the lent one; each date is kept as adjusted. */
+/* The lists grow from the far end of the lent ones; each date is kept as adjusted, and beside it as it was. */
 static long built(const struct build *b)
 {
     const struct calendar *c = &b->calendar;
@@ -108,6 +110,7 @@ static long built(const struct build *b)
     size_t at = PLACES - 1;
     uint32_t kept = adjusted(c, b->termination, b->convention);
     dates[at] = adjusted(c, b->termination, b->terminal);
+    unadjusted[at] = b->termination;
     for (int back = step;; back += step) {
         uint32_t candidate = in_days ? b->termination - (uint32_t)back : months_back(seed, back);
         if (candidate < b->effective)
@@ -118,6 +121,7 @@ static long built(const struct build *b)
         if (at == 0)
             return -14;
         dates[--at] = kept = moved;
+        unadjusted[at] = candidate;
         flags[at] = 1;
     }
     uint32_t first = adjusted(c, b->effective, b->convention);
@@ -125,10 +129,12 @@ static long built(const struct build *b)
         if (at == 0)
             return -14;
         dates[--at] = first;
+        unadjusted[at] = b->effective;
         flags[at] = 0;
     }
     long n = (long)(PLACES - at);
     memmove(dates, dates + at, (size_t)n * sizeof *dates);
+    memmove(unadjusted, unadjusted + at, (size_t)n * sizeof *unadjusted);
     memmove(flags, flags + at, (size_t)n - 1);
     return merged(n);
 }
@@ -153,11 +159,12 @@ static void adjust(void *with)
     a->answer = adjusted(&a->calendar, a->day, a->convention);
 }
 
-/* The two working lists of a build of ours, set to zero by themselves. */
+/* The three working lists of a build of ours, set to zero by themselves. */
 static void lists(void *with)
 {
     (void)with;
     memset(dates, 0, sizeof dates);
+    memset(unadjusted, 0, sizeof unadjusted);
     memset(flags, 0, sizeof flags);
 }
 
@@ -178,7 +185,7 @@ int main(int argc, char **argv)
             printf("%ld", a.answer);
         } else if (strcmp(kind, "lists") == 0) {
             print_times(lists, &a);
-            printf("%zu", sizeof dates + sizeof flags);
+            printf("%zu", sizeof dates + sizeof unadjusted + sizeof flags);
         } else {
             printf("unasked");
         }

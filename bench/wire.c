@@ -6,7 +6,7 @@
 #include "heronspan.h"
 
 static uint8_t whole[16444], buffer[HERONSPAN_WIRE], flags[1];
-static uint32_t closed[HERONSPAN_MOST], dates[1], answer[HERONSPAN_RECORD];
+static uint32_t closed[HERONSPAN_MOST], dates[1], unadjusted[1], answer[HERONSPAN_RECORD];
 static heronspan_reader reader;
 
 static size_t put(size_t at, uint8_t tag, const uint8_t *body, size_t n) {
@@ -64,7 +64,8 @@ __attribute__((noinline)) void measured(int what) {
             exit(4);
         break;
     case 4:
-        if (heronspan_build_bytes(whole, sizeof whole, dates, 1, flags, 1, answer, HERONSPAN_RECORD) != -HERONSPAN_BOOK)
+        if (heronspan_build_bytes(whole, sizeof whole, dates, 1, flags, 1, unadjusted, 1, answer, HERONSPAN_RECORD) !=
+            -HERONSPAN_BOOK)
             exit(5);
         break;
     case 5:

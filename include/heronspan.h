@@ -258,21 +258,23 @@ enum {
     HERONSPAN_RECORD = 6  /* how many places there are */
 };
 
-/* Builds a schedule and answers how many dates it has. They are written to the start of `dates`, and one fewer flags, each 1
- * where the period that ends at the next date is regular, to the start of `flags`; the two lists are equally long, and later
- * places keep what they held. `terminal` is the convention of the last date. An anchor (`first`, `penultimate`) of 0 is no
- * anchor.
+/* Builds a schedule and answers how many dates it has. They are written to the start of `dates`, as paid; one fewer flags, each 1
+ * where the period that ends at the next date is regular, to the start of `flags`; and for each paid date the one that it was
+ * before adjustment to the same place of `unadjusted`. The three lists are equally long, else HERONSPAN_UNEVEN, and later places
+ * keep what they held. `terminal` is the convention of the last date. An anchor (`first`, `penultimate`) of 0 is no anchor.
  *
  * `answer` has at least HERONSPAN_RECORD places, else HERONSPAN_ROOM is answered, before every other refusal, and nothing is
  * written. The record of the build is written to its start; of a refused one it is the number, then zeros. */
 int64_t heronspan_build(uint32_t effective, uint32_t termination, int32_t tenor, uint8_t unit, uint8_t rule,
                         uint8_t convention, uint8_t terminal, uint8_t monthend, uint32_t first, uint32_t penultimate,
                         uint8_t mask, const uint32_t *closed, size_t closed_len, uint32_t *dates, size_t dates_len,
-                        uint8_t *flags, size_t flags_len, uint32_t *answer, size_t answer_len);
+                        uint8_t *flags, size_t flags_len, uint32_t *unadjusted, size_t unadjusted_len, uint32_t *answer,
+                        size_t answer_len);
 
 /* The same from the bytes of a request, as document 01 lays them out; bytes that are no request are HERONSPAN_REQUEST. */
 int64_t heronspan_build_bytes(const uint8_t *bytes, size_t bytes_len, uint32_t *dates, size_t dates_len, uint8_t *flags,
-                              size_t flags_len, uint32_t *answer, size_t answer_len);
+                              size_t flags_len, uint32_t *unadjusted, size_t unadjusted_len, uint32_t *answer,
+                              size_t answer_len);
 
 /* What heronspan_coming answers: 0 where there is no later date, else the day times 4 and one of these marks of the period that
  * ends there; HERONSPAN_DAY and HERONSPAN_MARK take the two apart. */

@@ -410,9 +410,9 @@ class Questions:
         r = self.r
         build = self.build(longest=40)
         dates = r.choice((0, 1, 2, 2, 3, 3, 4, 4, 5, r.randrange(14), r.randrange(45), 4096))
-        flags = dates if r.random() < .95 else r.randrange(14)
+        flags, unadjusted = (dates if r.random() < .97 else r.randrange(14) for _ in range(2))
         record = 6 if r.random() < .9 else r.randrange(10)
-        return f"lent {dates} {flags} {record}{build[5:]}"
+        return f"lent {dates} {flags} {unadjusted} {record}{build[5:]}"
 
     def coming(self):
         """A build that is mostly one that the question answers, and a day, mostly near or between its dates."""
@@ -511,7 +511,7 @@ class Questions:
         """A build as request bytes, often with something wrong in them."""
         r = self.r
         words = self.lent().split()
-        data = request_bytes(words[4:], r.random() < .5)
+        data = request_bytes(words[5:], r.random() < .5)
         x = r.random()
         if x < .15:
             data[r.randrange(len(data))] = r.randrange(256)
@@ -525,7 +525,7 @@ class Questions:
             data.insert(r.randrange(len(data) + 1), r.randrange(256))
         elif x < .31:
             data += bytes(r.choice((1, 3, 20000)))
-        return " ".join(["bytes", *words[1:4], data.hex() or "-"])
+        return " ".join(["bytes", *words[1:5], data.hex() or "-"])
 
     # Open days by an index: the number of places is seldom another than 601.
 

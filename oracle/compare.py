@@ -15,6 +15,11 @@ wholly. A difference between them and the Rust must be one of those that have a 
 printed and ends the run with status 1. The closing tables count outcomes, and give each name its smallest input. Names
 marked (shared) are of what the law takes over from the Rust.
 
+The Rust has no unadjusted dates. Ours and the law must agree on them too, and there is a check by the Rust's own lists: without
+conventions and end of month an accepted build's unadjusted dates are its dates; another build's are the dates of the same
+request so asked (`unmoved`), where no candidate was skipped or changed, nothing merged in either, and both have as many dates.
+Outcomes say which builds were held to that, "third list too".
+
 Demand 2's exception is a test of a question: it asks for the previous twentieth, or a build with CDS or CDS2015 in force, and
 the Rust's previous twentieth of the day is another than the law's. Its outcomes begin "left out"; ours is held to the law there
 as everywhere, and the Rust to the law with the Rust's step back.
@@ -42,7 +47,7 @@ DATES = {"build": (1, 2, 9, 10), "trace": (1, 2, 9, 10), "coming": (1, 2, 3), "d
          "difference": (1, 2), "compare": (1, 2), "nth": (), "make": (), "times": (), "immcode": (), "check": (), "ixcount": (1, 2), "ixmake": (),
          "deskrun": (), "deskcombine": ()}
 # Where the calendar starts.
-CALENDAR = {"build": 11, "trace": 11, "coming": 12, "lent": 14, "check": 1, "open": 2, "adjust": 3, "monthend": 2, "ismonthend": 2, "advance": 6,
+CALENDAR = {"build": 11, "trace": 11, "coming": 12, "lent": 15, "check": 1, "open": 2, "adjust": 3, "monthend": 2, "ismonthend": 2, "advance": 6,
             "ixmake": 2, "ixcount": 4, "ixnth": 4, "ixadd": 3, "ixremove": 3}
 
 
@@ -77,8 +82,18 @@ def rust_line(line):
     return "build " + line.split(None, 2)[2] if line.startswith("coming ") else line
 
 
+def trace(line):
+    return "trace" + line[5:]
+
+
 def traces(lines):
-    return ["trace" + line[5:] for line in lines if line.startswith("build ")]
+    return [trace(line) for line in lines if line.startswith("build ")]
+
+
+def unmoved(line):
+    """The same build with both conventions Unadjusted and end of month off."""
+    words = line.split(None, 9)
+    return " ".join([*words[:6], "0", "0", "0", *words[9:]])
 
 
 class Differs(Exception):
@@ -126,22 +141,37 @@ def excepted(words):
             and reference.twentieths_differ(int(words[1]), int(words[5])))
 
 
-def judge_build(line, said, traced, own, own_traced, exception):
-    """Outcome, and the names that the question falls under."""
+def judge_build(line, theirs, mine, exception):
+    """Outcome, and the names that the question falls under; theirs and mine are the answers to all that was asked."""
+    own, own_traced = mine.get(line), mine.get(trace(line))
     if not exception or not excepted(line.split(None, 6)):
-        return hold_build(line, said, traced, own, own_traced, reference.previous_twentieth)
+        return hold_build(line, theirs, own, own_traced, reference.previous_twentieth)
     law = reference.answer(line)
     agree(law, own)
-    agree(reference.answer("trace" + line[5:]), own_traced)
-    outcome, _ = hold_build(line, said, traced, None, None, reference.rust_previous_twentieth)
-    same = law == reference.answer(line, previous=reference.rust_previous_twentieth)
-    return f"left out: {outcome}", [f"the CDS back-step to the wrong month: a build, {'the same' if same else 'another'} answer"]
+    agree(reference.answer(trace(line)), own_traced)
+    outcome, _ = hold_build(line, theirs, None, None, reference.rust_previous_twentieth)
+    same = reference.paid(law) == reference.paid(reference.answer(line, previous=reference.rust_previous_twentieth))
+    return f"left out: {outcome.split(',')[0]}", [f"the CDS back-step to the wrong month: a build, {'the same' if same else 'another'} answer"]
 
 
-def hold_build(line, said, traced, own, own_traced, previous):
+def shown(line, build, theirs):
+    """Whether the Rust's own list of the request without conventions and end of month shows the unadjusted dates, which are held to it."""
+    other = unmoved(line)
+    said = theirs[other].split()
+    if other != line:
+        if build.swayed or said[0] != "ok" or not len(build.dates) == build.peak == int(said[4]) == int(theirs[trace(other)].split()[2]):
+            return False
+    given = list(map(int, said[5:5 + int(said[4])]))
+    if build.unadjusted != given:
+        raise Differs(f"unadjusted dates: {build.unadjusted}\n    the Rust's dates of {other}: {given}")
+    return True
+
+
+def hold_build(line, theirs, own, own_traced, previous):
     """The Rust and ours are held to the law with that step back to the previous twentieth."""
     words = line.split()
     names = []
+    said, traced = theirs[line], theirs[trace(line)]
     ends = traced.split()
     build = reference.read_build(reference.Words(line[6:]), previous)
     try:
@@ -166,7 +196,7 @@ def hold_build(line, said, traced, own, own_traced, previous):
         if number == 14:
             if ends[0] == "error" or int(ends[2]) <= reference.PLACES:
                 raise Differs(f"{traced}, refused 14")
-            wide = reference.answer(line, 10**9, previous)
+            wide = reference.paid(reference.answer(line, 10**9, previous))
             if said != wide and (wide, said) not in (("refused 13", "closed"), ("refused 15", "panic")):
                 raise Differs(f"{said}, without limit {wide}")
             return "refused 14", ["a list of more than 4,096 dates"]
@@ -176,10 +206,9 @@ def hold_build(line, said, traced, own, own_traced, previous):
             group = "Twentieth" if build.rule in (3, 4, 7, 8, 9) else RULES[build.rule]
             return "refused 15 = panic", [f"reversed dates panic: {group}"]
         return "refused 15 = panic", [f"a merge panics: {RULES[build.rule]}"]
-    given = " ".join(map(str, ["ok", build.rule, build.unit, build.length, len(build.dates), *build.dates,
-                               *map(int, build.flags)]))
-    ended = f"ok {build.tries} {build.peak}"
-    agree(given, own)
+    whole = reference.said(build)
+    given, ended = reference.paid(whole), f"ok {build.tries} {build.peak}"
+    agree(whole, own)
     agree(ended, own_traced)
     if said != given or traced != ended:
         raise Differs(f"the Rust: {said} / {traced}\n    the law: {given} / {ended}")
@@ -192,7 +221,7 @@ def hold_build(line, said, traced, own, own_traced, previous):
         names.append(f"(shared) a list out of order: {RULES[build.rule]}")
     if any(s == 0 for s in steps):
         names.append(f"(shared) a list that repeats a date: {RULES[build.rule]}")
-    return "ok", names
+    return "ok, third list too" if shown(line, build, theirs) else "ok", names
 
 
 def judge_coming(line, said, own):
@@ -333,29 +362,28 @@ class Run:
         self.ours, self.exception = ours, exception
 
     def asking(self, pool, lines, timeout=None):
-        """The lines, and what the Rust and ours will have answered to them and to the traces of their builds."""
+        """The lines, and what the Rust and ours are asked and will have answered: the lines, the traces of their builds, and the Rust
+        the builds without conventions and end of month too."""
         asked = [line for line in lines if of_rust(line)]
+        others = [unmoved(line) for line in asked if line.startswith("build ") and unmoved(line) != line]
+        more = traces(asked) + others + traces(others)
         of_us = lines + traces(lines) if self.ours else []
-        return (lines, pool.submit(rust, [rust_line(line) for line in asked] + traces(asked), timeout),
-                pool.submit(answers, self.ours, of_us, timeout))
+        return (lines, asked + more, pool.submit(rust, [rust_line(line) for line in asked] + more, timeout),
+                of_us, pool.submit(answers, self.ours, of_us, timeout))
 
-    def judging(self, lines, said, own):
+    def judging(self, lines, asked, said, of_us, own):
         """Outcome and names of each line; raises on a difference without a name."""
-        said, own = iter(said.result()), iter(own.result())
-        said = [next(said) if of_rust(line) else None for line in lines] + list(said)
-        own = list(own) if self.ours else [None] * (2 * len(lines))
-        at = len(lines)
-        traced, own_traced = iter(said[at:]), iter(own[at:])
-        for line, theirs, mine in zip(lines, said, own):
+        theirs, mine = dict(zip(asked, said.result())), dict(zip(of_us, own.result()))
+        for line in lines:
             try:
-                if theirs is not None and line.startswith("build "):
-                    yield line, *judge_build(line, theirs, next(traced), mine, next(own_traced), self.exception)
+                if line.startswith("build ") and line in theirs:
+                    yield line, *judge_build(line, theirs, mine, self.exception)
                 elif line.startswith("coming "):
-                    yield line, *judge_coming(line, theirs, mine)
+                    yield line, *judge_coming(line, theirs.get(line), mine.get(line))
                 else:
                     if line.startswith("build "):
-                        agree(reference.answer(line), next(own_traced))
-                    yield line, *judge_small(line, theirs, mine, self.exception)
+                        agree(reference.answer(line), mine.get(trace(line)))
+                    yield line, *judge_small(line, theirs.get(line), mine.get(line), self.exception)
             except Differs as differs:
                 raise Differs(f"{line}\n    {differs}") from None
 
@@ -416,16 +444,19 @@ class Run:
         left = {kind: sum(n for (row, outcome), n in self.outcomes.items() if outcome.startswith("left out") and row.split()[0] == kind)
                 for kind in ("build", "prev20")}
         print(f"left out by demand 2's exception: {left['build']} builds and {left['prev20']} previous twentieths")
+        told, held = (sum(n for (_, outcome), n in self.outcomes.items() if outcome.startswith(what)) for what in ("ok, third list too", "ok"))
+        print(f"unadjusted dates held to the Rust's own lists: those of {told} of the {held} builds given and not left out")
         print(f"{builds} builds and {total - builds} small questions in {took:.0f} s: no difference without a name"
               + (", none between ours and the law" if self.ours else "; ours was left out"))
 
 
 def small_lent(build, at):
-    """The build into lists of another length: 0 to 14 by turns, seldom of two lengths or with a short record."""
+    """The build into lists of another length: 0 to 14 by turns, seldom of two or three lengths or with a short record."""
     dates = at % 15
     flags = dates + (at % 89 == 0)
+    unadjusted = dates + (at % 83 == 0)
     record = 5 if at % 97 == 0 else 6
-    return f"lent {dates} {flags} {record}{build[5:]}"
+    return f"lent {dates} {flags} {unadjusted} {record}{build[5:]}"
 
 
 def with_rooms(questions):

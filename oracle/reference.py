@@ -303,6 +303,8 @@ class Build:
         self.month_end, self.first, self.penultimate = month_end, first, penultimate
         self.calendar, self.previous = calendar, previous
         self.dates, self.flags, self.tries, self.room, self.peak = [], [], 0, PLACES, 0
+        self.unadjusted = []  # beside the dates, once these are generated
+        self.swayed = False  # whether a convention or end of month changed a candidate, or which of them are kept
 
     def check(self):
         """Refusals 2 to 12 and 27, in order; the rule in force."""
@@ -353,8 +355,10 @@ class Build:
 
     def put_unless_same(self, day, flag, convention):
         adjust = self.calendar.adjust
-        if adjust(self.dates[-1], convention) != adjust(day, convention):
+        differs = adjust(self.dates[-1], convention) != adjust(day, convention)
+        if differs:
             self.put(day, flag)
+        return differs
 
     def candidate(self, seed, count):
         return NULL.advance(seed, self.unit, self.length * count, UNADJUSTED, self.month_end)
@@ -364,9 +368,12 @@ class Build:
         while True:
             self.tries += 1
             day = self.candidate(seed, sign * self.tries)
+            if self.month_end and day != NULL.advance(seed, self.unit, self.length * sign * self.tries, UNADJUSTED, False):
+                self.swayed = True
             if sign * (day - exit_date) > 0:
                 return
-            self.put_unless_same(day, True, self.convention)
+            if not self.put_unless_same(day, True, self.convention):
+                self.swayed = True
 
     def backward(self):
         seed = self.termination
@@ -389,6 +396,7 @@ class Build:
         if rule in (CDS, CDS2015):
             back = self.previous(start, rule)
             if self.calendar.adjust(back, self.convention) > start:
+                self.swayed = True
                 self.put(add_months(back, -3))
                 self.put(back, True)
             else:
@@ -426,6 +434,7 @@ class Build:
         for i in {WEDNESDAY: middle, WEDNESDAY_ALL: range(len(dates))}.get(self.rule, ()):
             d = civil(dates[i])
             dates[i] = third_wednesday(d.year, d.month)
+        self.unadjusted = list(dates)
         if self.rule != OLD_CDS:
             dates[0] = calendar.adjust(dates[0], self.convention)
         if self.rule not in (CDS, CDS2015):
@@ -440,16 +449,17 @@ class Build:
                 dates[i] = calendar.month_end(dates[i])
 
     def merge(self):
-        dates, flags = self.dates, self.flags
+        """The paid dates decide; an entry goes with both its dates."""
+        dates, flags, unadjusted = self.dates, self.flags, self.unadjusted
         if len(dates) >= 2 and dates[-2] >= dates[-1]:
             if len(flags) >= 2:
                 flags[-2] = dates[-2] == dates[-1]
-            del dates[-2]
+            del dates[-2], unadjusted[-2]
             del flags[-1]
             need(len(dates) != 2 or dates[1] > dates[0], COLLAPSED)
         if len(dates) >= 2 and dates[1] <= dates[0]:
             flags[1] = dates[1] == dates[0]
-            del dates[1]
+            del dates[1], unadjusted[1]
             del flags[0]
 
 
@@ -486,7 +496,7 @@ def year_report(dates):
 # Where bytes that stand for something lie among a question's words, and how many such bytes there are; units are letters.
 UNIT = 0
 BUILD = ((3, UNIT), (5, 10), (6, 5), (7, 5), (8, 2))
-BYTES = {"build": BUILD, "trace": BUILD, "lent": tuple((at + 3, size) for at, size in BUILD),
+BYTES = {"build": BUILD, "trace": BUILD, "lent": tuple((at + 4, size) for at, size in BUILD),
          "coming": tuple((at + 1, size) for at, size in BUILD),
          "adjust": ((2, 5),), "deskadjust": ((2, 5),), "advance": ((2, UNIT), (4, 5), (5, 2)), "next20": ((2, 10),), "prev20": ((2, 10),),
          "dateadvance": ((2, UNIT),), "times": ((1, UNIT),), "yearparts": ((2, 3),), "yearfraction": ((1, 3),),
@@ -535,9 +545,20 @@ def read_build(w, previous=previous_twentieth):
                  w.number(), w.number(), w.calendar(), previous)
 
 
+def said(b):
+    """What a build has come to."""
+    return " ".join(map(str, ["ok", b.rule, b.unit, b.length, len(b.dates), *b.dates, *map(int, b.flags), *b.unadjusted]))
+
+
 def said_build(b, room):
     b.run(room)
-    return " ".join(map(str, ["ok", b.rule, b.unit, b.length, len(b.dates), *b.dates, *map(int, b.flags)]))
+    return said(b)
+
+
+def paid(answered):
+    """A build's answer without its unadjusted dates: the words of the Rust."""
+    words = answered.split()
+    return " ".join(words[:4 + 2 * int(words[4])]) if words[0] == "ok" else answered
 
 
 def ask_build(w, room, previous=previous_twentieth):
@@ -552,10 +573,10 @@ def ask_trace(w, room):
 
 def ask_lent(w):
     """A build into lists of these lengths; the record's own comes before all else."""
-    dates, flags, record = w.number(), w.number(), w.number()
+    dates, flags, unadjusted, record = w.number(), w.number(), w.number(), w.number()
     need(record >= RECORD, ROOM)
     need(not outside(w.words), REQUEST)
-    need(dates == flags, UNEVEN)
+    need(dates == flags == unadjusted, UNEVEN)
     return ask_build(w, min(dates, PLACES))
 
 
@@ -616,10 +637,10 @@ def read_request(data):
 
 
 def ask_bytes(w):
-    dates, flags, record = w.number(), w.number(), w.number()
+    dates, flags, unadjusted, record = w.number(), w.number(), w.number(), w.number()
     need(record >= RECORD, ROOM)
     build = read_request(w.bytes())
-    need(dates == flags, UNEVEN)
+    need(dates == flags == unadjusted, UNEVEN)
     return said_build(build, min(dates, PLACES))
 
 

@@ -81,6 +81,7 @@ def kept(questions, count, group, share):
         said = compare.rust(batch)
         for (line, outcome, _), answer in zip(run.judged(batch), said):
             outcome = {"left out": "same"}.get(outcome, outcome.removeprefix("left out: "))
+            outcome = "ok" if outcome.startswith("ok") else outcome
             place = group(line), outcome
             same = outcome in ("ok", "same") or " = " in outcome and outcome != "no = panic"
             short = len(line) + len(answer) < LONGEST
@@ -88,6 +89,12 @@ def kept(questions, count, group, share):
                 seen[place] = seen.get(place, 0) + 1
                 found.append((line, answer))
     return found
+
+
+def law(line):
+    """The law's answer in the words of the Rust, which has no unadjusted dates."""
+    answer = reference.answer(line)
+    return reference.paid(answer) if line.startswith("build ") else answer
 
 
 def write(name, lines):
@@ -109,11 +116,11 @@ def main():
                  lambda line: line.split()[0], lambda outcome: 85 if outcome == "same" else 12)
     write("small.txt", [text for pair in small for text in pair])
     write("twentieths.txt", [text for line, _ in builds + small if compare.excepted(line.split())
-                             for text in (line, reference.answer(line))])
+                             for text in (line, law(line))])
     named = [(name, line or long_list()) for name, line in NAMED]
     said = compare.rust([line for _, line in named])
     write("named.txt", [text for (name, line), answer in zip(named, said)
-                        for text in (name, line, answer, reference.answer(line))])
+                        for text in (name, line, answer, law(line))])
     print(f"{len(builds)} builds, {len(small)} small questions and {len(named)} named differences stored")
 
 

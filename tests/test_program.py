@@ -27,12 +27,12 @@ EXAMPLE_TEXT = """6 dates, 6 tries
 FULL = bytes.fromhex("01 0004 000B436C 02 0004 000B4403 03 0003 4D0001 04 0001 01 05 0001 01 06 0001 01 07 0001 00"
                      "08 0004 00000000 09 0004 00000000 0A 0001 60 0B 0008 000B436C 000B4403 FF 0000")
 FULL_TEXT = """6 dates, 6 tries
-2022-01-03
+2022-01-03 (2022-01-01)
 2022-02-01 R
 2022-03-01 R
 2022-04-01 R
-2022-05-02 R
-2022-06-02 R
+2022-05-02 R (2022-05-01)
+2022-06-02 R (2022-06-01)
 """
 
 
@@ -85,6 +85,59 @@ class Schedules(unittest.TestCase):
         days = [(first + datetime.timedelta(days=k)).isoformat() for k in range(4096)]
         text = f"4096 dates, 4096 tries\n{days[0]}\n" + "".join(f"{day} R\n" for day in days[1:])
         self.printed(text, days[0], days[-1], "1D")
+
+
+FOLLOWING = ("--convention", "Following", "--termination-convention", "Following", "--weekend")
+
+
+class Unadjusted(unittest.TestCase):
+    """Request L7: where an entry's two dates differ, the one before adjustment stands in brackets at the end of its line."""
+
+    def lines(self, *words, shut=()):
+        """The lines below the header; weekends and these days are closed."""
+        asked = request(*words)
+        if shut:
+            days = b"".join(datetime.date.fromisoformat(day).toordinal().to_bytes(4, "big") for day in shut)
+            asked = asked[:-3] + field(0x0B, days) + asked[-3:]
+        header, *lines = answer(asked).splitlines()
+        self.assertRegex(header, rf"^{len(lines)} dates, [0-9]+ tries$")
+        return lines
+
+    def test_brackets_where_the_two_dates_differ(self):
+        self.assertEqual(self.lines("2025-01-15", "2025-12-20", "3M", *FOLLOWING),
+                         ["2025-01-15", "2025-03-20 S", "2025-06-20 R", "2025-09-22 R (2025-09-20)", "2025-12-22 R (2025-12-20)"])
+        self.assertEqual(self.lines("2025-03-01", "2025-06-01", "3M", *FOLLOWING), ["2025-03-03 (2025-03-01)", "2025-06-02 R (2025-06-01)"])
+        self.assertEqual(self.lines("2025-03-02", "2025-06-01", "1M", "--rule", "Forward", *FOLLOWING),
+                         ["2025-03-03 (2025-03-02)", "2025-04-02 R", "2025-05-02 R", "2025-06-02 S (2025-06-01)"])
+
+    def test_after_the_third_wednesdays(self):
+        asked = ("2025-01-10", "2025-03-10", "1M", "--rule", "ThirdWednesdayInclusive", *FOLLOWING)
+        self.assertEqual(self.lines(*asked, shut=["2025-02-19"]), ["2025-01-15", "2025-02-20 R (2025-02-19)", "2025-03-19 R"])
+
+    def test_a_date_that_was_not_added_leaves_nothing(self):
+        self.assertEqual(self.lines("2025-03-01", "2025-05-02", "1M", *FOLLOWING)[0], "2025-03-03 (2025-03-02)")
+        self.assertEqual(self.lines("2025-03-01", "2025-03-02", "1D", "--rule", "Forward", *FOLLOWING), ["2025-03-03 (2025-03-01)"])
+
+    def test_an_end_that_a_rule_leaves_alone(self):
+        self.assertEqual(self.lines("2025-01-11", "2025-12-20", "3M", "--rule", "OldCDS", *FOLLOWING)[0], "2025-01-11")
+
+    def test_end_of_month_moves_the_paid_date_alone(self):
+        self.assertEqual(self.lines("2025-01-30", "2025-05-30", "1M", "--weekend", "--eom")[2], "2025-03-31 R (2025-03-30)")
+        self.assertEqual(self.lines("2025-04-30", "2025-06-30", "1M", "--eom", *FOLLOWING)[1], "2025-05-30 R (2025-05-31)")
+
+    def test_merges_drop_whole_entries(self):
+        asked = ("2025-02-28", "2025-03-02", "1D", "--rule", "Forward", "--convention", "Following", "--termination-convention", "Preceding")
+        self.assertEqual(self.lines(*asked, "--weekend"), ["2025-02-28 (2025-03-01)"])
+        lines = self.lines("2025-01-20", "2025-03-10", "1W", "--rule", "ThirdWednesday", *FOLLOWING, shut=["2025-01-20"])
+        self.assertEqual(lines[0], "2025-01-21 (2025-01-20)")
+        self.assertFalse(any("2025-01-15" in line for line in lines))
+
+    def test_the_longest_text(self):
+        days = [datetime.date(2025, 3, 1) + datetime.timedelta(weeks=k) for k in range(4096)]
+        moved = [(day + datetime.timedelta(days=2)).isoformat() for day in days]
+        text = f"4096 dates, 4096 tries\n{moved[0]} ({days[0]})\n" + "".join(f"{to} R ({day})\n" for to, day in zip(moved[1:], days[1:]))
+        self.assertEqual(len(text), 106517)
+        self.assertEqual(answer(request(days[0].isoformat(), days[-1].isoformat(), "1W", "--rule", "Forward", *FOLLOWING)), text)
 
 
 class Refusals(unittest.TestCase):

@@ -1,5 +1,5 @@
-/* Builds a quarterly schedule and prints it, then shows two refusals: by name, and of a missing date. Ends with 1 where the
- * header and the library name an answer differently. */
+/* Builds a quarterly schedule and prints it, with the date before adjustment in brackets where it was another, then shows
+ * refusals: by name, and of a missing date. Ends with 1 where the header and the library name an answer differently. */
 #include <inttypes.h>
 #include <stdio.h>
 #include <string.h>
@@ -28,7 +28,7 @@ static int same_names(void) {
 }
 
 int main(void) {
-    uint32_t dates[16], answer[HERONSPAN_RECORD];
+    uint32_t dates[16], unadjusted[16], answer[HERONSPAN_RECORD];
     uint8_t flags[16];
     uint32_t effective = (uint32_t)heronspan_make(2025, 1, 15);
     uint32_t termination = (uint32_t)heronspan_make(2025, 12, 20);
@@ -36,7 +36,7 @@ int main(void) {
     /* Every three months back from the end, weekends closed, moved to the following open day. */
     int64_t count = heronspan_build(effective, termination, 3, HERONSPAN_MONTHS, HERONSPAN_BACKWARD, HERONSPAN_FOLLOWING,
                                     HERONSPAN_FOLLOWING, 0, 0, 0, HERONSPAN_WEEKENDS, NULL, 0, dates, 16, flags, 16,
-                                    answer, HERONSPAN_RECORD);
+                                    unadjusted, 16, answer, HERONSPAN_RECORD);
     if (count < 0) {
         print_refusal("build", count);
         return 1;
@@ -44,14 +44,26 @@ int main(void) {
     printf("%" PRId64 " dates, %" PRIu32 " tries\n", count, answer[HERONSPAN_TRIES]);
     for (int64_t i = 0; i < count; i++) {
         print_day(dates[i]);
-        printf("%s\n", i == 0 ? "" : flags[i - 1] ? " R" : " S");
+        printf("%s", i == 0 ? "" : flags[i - 1] ? " R" : " S");
+        if (unadjusted[i] != dates[i]) {
+            printf(" (");
+            print_day(unadjusted[i]);
+            printf(")");
+        }
+        printf("\n");
     }
 
     /* The same with room for four dates. */
     count = heronspan_build(effective, termination, 3, HERONSPAN_MONTHS, HERONSPAN_BACKWARD, HERONSPAN_FOLLOWING,
-                            HERONSPAN_FOLLOWING, 0, 0, 0, HERONSPAN_WEEKENDS, NULL, 0, dates, 4, flags, 4, answer,
-                            HERONSPAN_RECORD);
+                            HERONSPAN_FOLLOWING, 0, 0, 0, HERONSPAN_WEEKENDS, NULL, 0, dates, 4, flags, 4, unadjusted, 4,
+                            answer, HERONSPAN_RECORD);
     print_refusal("four places", count);
+
+    /* With lists of two lengths, before all else. */
+    count = heronspan_build(effective, termination, 3, HERONSPAN_MONTHS, HERONSPAN_BACKWARD, HERONSPAN_FOLLOWING,
+                            HERONSPAN_FOLLOWING, 0, 0, 0, HERONSPAN_WEEKENDS, NULL, 0, dates, 4, flags, 4, unadjusted, 5,
+                            answer, HERONSPAN_RECORD);
+    print_refusal("a longer third list", count);
 
     /* The coming date of an unadjusted schedule, without the schedule. */
     int64_t coming = heronspan_coming(effective, termination, 3, HERONSPAN_MONTHS, HERONSPAN_BACKWARD, HERONSPAN_UNADJUSTED,

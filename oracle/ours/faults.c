@@ -2,26 +2,46 @@
    with --wrap, so that the calls of ours.c come here first. */
 #include "../../include/heronspan.h"
 
-#if defined FAULT_BUILD || defined FAULT_LIST
-/* One try too many where a next-to-last date is given; or a flag too many where there is room. */
+#if defined FAULT_BUILD || defined FAULT_LIST || defined FAULT_COPY || defined FAULT_ENDS || defined FAULT_LATER || \
+    defined FAULT_EVEN
 int64_t __real_heronspan_build(uint32_t, uint32_t, int32_t, uint8_t, uint8_t, uint8_t, uint8_t, uint8_t, uint32_t,
                                uint32_t, uint8_t, const uint32_t *, size_t, uint32_t *, size_t, uint8_t *, size_t,
-                               uint32_t *, size_t);
+                               uint32_t *, size_t, uint32_t *, size_t);
 int64_t __wrap_heronspan_build(uint32_t effective, uint32_t termination, int32_t tenor, uint8_t unit, uint8_t rule,
                                uint8_t convention, uint8_t terminal, uint8_t monthend, uint32_t first,
                                uint32_t penultimate, uint8_t mask, const uint32_t *closed, size_t count,
                                uint32_t *dates, size_t dates_places, uint8_t *flags, size_t flags_places,
-                               uint32_t *answer, size_t answer_places)
+                               uint32_t *unadjusted, size_t unadjusted_places, uint32_t *answer, size_t answer_places)
 {
+#ifdef FAULT_EVEN
+    /* Refusal 1 looks at two of the lists alone. */
+    if (dates_places == flags_places && unadjusted_places > dates_places)
+        unadjusted_places = dates_places;
+#endif
     int64_t n = __real_heronspan_build(effective, termination, tenor, unit, rule, convention, terminal, monthend, first,
                                        penultimate, mask, closed, count, dates, dates_places, flags, flags_places,
-                                       answer, answer_places);
-#ifdef FAULT_BUILD
+                                       unadjusted, unadjusted_places, answer, answer_places);
+#if defined FAULT_BUILD
+    /* One try too many where a next-to-last date is given. */
     if (n > 0 && penultimate)
         answer[2]++;
-#else
+#elif defined FAULT_LIST
+    /* A flag too many where there is room. */
     if (n > 0 && (size_t)n < flags_places)
         flags[n - 1] = 0;
+#elif defined FAULT_COPY
+    /* A date that was moved by a week or more is taken for one that was not. */
+    for (int64_t i = 0; i < n; i++)
+        if (dates[i] >= unadjusted[i] + 7 || unadjusted[i] >= dates[i] + 7)
+            unadjusted[i] = dates[i];
+#elif defined FAULT_ENDS
+    /* Termination stands for the last date, also where a rule ends on another. */
+    if (n > 1)
+        unadjusted[n - 1] = termination;
+#elif defined FAULT_LATER
+    /* The place behind the last unadjusted date is cleared. */
+    if (n > 0 && (size_t)n < unadjusted_places)
+        unadjusted[n] = 0;
 #endif
     return n;
 }

@@ -86,16 +86,34 @@ static void say_times(uint8_t u, int32_t length, int32_t times)
 
 /* Builds. */
 
-static uint32_t dates[PLACES + EXTRA], answer[RECORD + EXTRA];
+static uint32_t dates[PLACES + EXTRA], unadjusted[PLACES + EXTRA], answer[RECORD + EXTRA];
 static uint8_t flags[PLACES + EXTRA];
 
-enum { DATE = 0xd47e, FLAG = 0xf1, NUMBER = 0xa45 };
+enum { DATE = 0xd47e, BEFORE = 0xbef, FLAG = 0xf1, NUMBER = 0xa45 };
+
+/* How many places are lent of the lists and of the record. */
+struct lent {
+    size_t dates, flags, unadjusted, record;
+};
+
+static struct lent evenly(size_t room)
+{
+    struct lent l = {room, room, room, RECORD};
+    return l;
+}
+
+static size_t longest(struct lent l)
+{
+    size_t two = l.dates > l.flags ? l.dates : l.flags;
+    return two > l.unadjusted ? two : l.unadjusted;
+}
 
 static void fresh(size_t places)
 {
     for (size_t i = 0; i < places + EXTRA; i++) {
         dates[i] = DATE;
         flags[i] = FLAG;
+        unadjusted[i] = BEFORE;
     }
     for (size_t i = 0; i < RECORD + EXTRA; i++)
         answer[i] = NUMBER;
@@ -105,7 +123,7 @@ static void fresh(size_t places)
 static int kept(size_t dates_written, size_t flags_written, size_t record, size_t places)
 {
     for (size_t i = dates_written; i < places + EXTRA; i++)
-        if (dates[i] != DATE)
+        if (dates[i] != DATE || unadjusted[i] != BEFORE)
             return 0;
     for (size_t i = flags_written; i < places + EXTRA; i++)
         if (flags[i] != FLAG)
@@ -125,32 +143,33 @@ static int recorded(int64_t n)
 }
 
 /* Asks for a build; the request is the bytes last read where none is given. */
-static int64_t called(const struct build *b, size_t dates_places, size_t flags_places, size_t record)
+static int64_t called(const struct build *b, struct lent l)
 {
     if (!b)
-        return heronspan_build_bytes(code, code_length, dates, dates_places, flags, flags_places, answer, record);
+        return heronspan_build_bytes(code, code_length, dates, l.dates, flags, l.flags, unadjusted, l.unadjusted, answer,
+                                     l.record);
     return heronspan_build(b->effective, b->termination, b->tenor, b->unit, b->rule, b->convention, b->terminal,
                            b->monthend, b->first, b->penultimate, b->calendar.mask, b->calendar.closed,
-                           b->calendar.count, dates, dates_places, flags, flags_places, answer, record);
+                           b->calendar.count, dates, l.dates, flags, l.flags, unadjusted, l.unadjusted, answer, l.record);
 }
 
 /* Builds into lists lent with these lengths; minus the refusal, or the count. Says too whether lists or record hold what
    they should not. */
-static int64_t built(const struct build *b, size_t dates_places, size_t flags_places, size_t record, int *wrong)
+static int64_t built(const struct build *b, struct lent l, int *wrong)
 {
-    size_t places = dates_places > flags_places ? dates_places : flags_places;
+    size_t places = longest(l);
     fresh(places);
-    int64_t n = called(b, dates_places, flags_places, record);
+    int64_t n = called(b, l);
     size_t given = n > 0 ? (size_t)n : 0;
-    *wrong = given > dates_places || !kept(given, given ? given - 1 : 0, record < RECORD ? 0 : RECORD, places) ||
-             (record >= RECORD && !recorded(n));
+    *wrong = given > l.dates || !kept(given, given ? given - 1 : 0, l.record < RECORD ? 0 : RECORD, places) ||
+             (l.record >= RECORD && !recorded(n));
     return n;
 }
 
-static void say_build(const struct build *b, size_t dates_places, size_t flags_places, size_t record)
+static void say_build(const struct build *b, struct lent l)
 {
     int wrong;
-    int64_t n = built(b, dates_places, flags_places, record, &wrong);
+    int64_t n = built(b, l, &wrong);
     if (wrong) {
         say("wrote elsewhere %lld", (long long)n);
         return;
@@ -164,13 +183,15 @@ static void say_build(const struct build *b, size_t dates_places, size_t flags_p
         say(" %u", dates[i]);
     for (int64_t i = 0; i + 1 < n; i++)
         say(" %u", flags[i]);
+    for (int64_t i = 0; i < n; i++)
+        say(" %u", unadjusted[i]);
 }
 
 /* Tries, and the least room that suffices: looked for from one place below the list's own length. */
 static void say_trace(const struct build *b)
 {
     int wrong;
-    int64_t n = built(b, PLACES, PLACES, RECORD, &wrong);
+    int64_t n = built(b, evenly(PLACES), &wrong);
     if (wrong) {
         say("wrote elsewhere %lld", (long long)n);
         return;
@@ -181,7 +202,7 @@ static void say_trace(const struct build *b)
     }
     uint32_t tries = answer[2];
     for (size_t room = n > 0 ? (size_t)n - 1 : 0; room <= PLACES; room++) {
-        int64_t again = built(b, room, room, RECORD, &wrong);
+        int64_t again = built(b, evenly(room), &wrong);
         if (wrong || (again != n && again != ROOM) || (again == n && answer[2] != tries)) {
             say("room %zu answered %lld", room, (long long)again);
             return;
@@ -284,7 +305,7 @@ static int ask_schedule(const char *kind)
 {
     if (is(kind, "build")) {
         struct build b = read_build();
-        say_build(&b, PLACES, PLACES, RECORD);
+        say_build(&b, evenly(PLACES));
     } else if (is(kind, "trace")) {
         struct build b = read_build();
         say_trace(&b);
@@ -293,15 +314,19 @@ static int ask_schedule(const char *kind)
         struct build b = read_build();
         say_coming(asked, &b);
     } else if (is(kind, "lent") || is(kind, "bytes")) {
-        size_t dates_places = (size_t)number(), flags_places = (size_t)number(), record = (size_t)number();
-        if (dates_places > PLACES || flags_places > PLACES || record > RECORD + EXTRA)
+        struct lent l;
+        l.dates = (size_t)number();
+        l.flags = (size_t)number();
+        l.unadjusted = (size_t)number();
+        l.record = (size_t)number();
+        if (longest(l) > PLACES || l.record > RECORD + EXTRA)
             stop("longer lists than there are");
         struct build b;
         if (is(kind, "lent"))
             b = read_build();
         else
             read_code();
-        say_build(is(kind, "lent") ? &b : NULL, dates_places, flags_places, record);
+        say_build(is(kind, "lent") ? &b : NULL, l);
     } else {
         return 0;
     }

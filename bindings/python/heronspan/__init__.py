@@ -160,9 +160,9 @@ _PARAMETERS = {
     "next_imm_code_with_code": [*_bytes, _u8, _u32],
     "next_twentieth": [_u32, _u8],
     "previous_twentieth": [_u32, _u8],
-    "build": [*_request, *_days, *_flags, *_days],
+    "build": [*_request, *_days, *_flags, *_days, *_days],
     "coming": [*_request, _u32],
-    "build_bytes": [*_bytes, *_days, *_flags, *_days],
+    "build_bytes": [*_bytes, *_days, *_flags, *_days, *_days],
     "year_fraction": [_u8, _u32, _u32],
     "year_parts": [_u8, _u32, _u32, *_days],
     "year_report": [*_days, *_days],
@@ -520,9 +520,11 @@ def year_report(dates: Iterable[Optional[date]]) -> Sums:
 
 @dataclass(frozen=True)
 class Schedule:
-    """Dates, and for each period between them whether it is regular; what was tried, and the rule and tenor in force."""
+    """Paid dates, for each the date that it was before adjustment, and for each period between them whether it is regular; what
+    was tried, and the rule and tenor in force."""
 
     dates: list[date]
+    unadjusted: list[date]
     regular: list[bool]
     tries: int
     rule: Rule
@@ -707,10 +709,11 @@ def _asked(effective, termination, tenor, unit, rule, convention, terminal, mont
 
 
 def _built(name: str, room: int, *asked: object) -> Schedule:
-    dates, flags, record = (_u32 * room)(), (_u8 * room)(), (_u32 * 6)()
-    count = _ask(name, *asked, dates, room, flags, room, record, 6)
+    dates, flags, unadjusted, record = (_u32 * room)(), (_u8 * room)(), (_u32 * room)(), (_u32 * 6)()
+    count = _ask(name, *asked, dates, room, flags, room, unadjusted, room, record, 6)
     return Schedule(
         dates=[_date(day) for day in dates[:count]],
+        unadjusted=[_date(day) for day in unadjusted[:count]],
         regular=[flag == 1 for flag in flags[: max(count - 1, 0)]],
         tries=record[2],
         rule=Rule(record[3]),

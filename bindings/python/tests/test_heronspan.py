@@ -248,6 +248,7 @@ class Schedules(Refusals):
     def test_backward(self) -> None:
         built = h.build(date(2025, 1, 15), date(2025, 12, 20), 3, Unit.MONTHS)
         self.assertEqual(built.dates, days("2025-01-15", "2025-03-20", "2025-06-20", "2025-09-20", "2025-12-20"))
+        self.assertEqual(built.unadjusted, built.dates)
         self.assertEqual(built.regular, [False, True, True, True])
         self.assertEqual((built.tries, built.rule, built.tenor, built.unit), (4, Rule.BACKWARD, 3, Unit.MONTHS))
 
@@ -269,6 +270,52 @@ class Schedules(Refusals):
         built = h.build(*asked, convention=Convention.UNADJUSTED, terminal=Convention.FOLLOWING, calendar=weekends)
         self.assertEqual(built.dates[-2:], days("2025-09-20", "2025-12-22"))
 
+    def entries(self, effective: str, termination: str, tenor: int, unit: Unit, closed: str = "", **named) -> list[tuple[str, str]]:
+        """Paid and unadjusted dates of a build, weekends closed."""
+        calendar = h.Calendar(h.WEEKENDS, days(*closed.split()))
+        built = h.build(*days(effective, termination), tenor, unit, calendar=calendar, **named)
+        return [(paid.isoformat(), before.isoformat()) for paid, before in zip(built.dates, built.unadjusted, strict=True)]
+
+    def test_unadjusted_dates(self) -> None:
+        following = {"convention": Convention.FOLLOWING, "terminal": Convention.FOLLOWING}
+        self.assertEqual(self.entries("2025-01-10", "2025-03-10", 1, Unit.MONTHS, "2025-02-19", rule=Rule.THIRD_WEDNESDAY_INCLUSIVE, **following),
+                         [("2025-01-15", "2025-01-15"), ("2025-02-20", "2025-02-19"), ("2025-03-19", "2025-03-19")])
+        self.assertEqual(self.entries("2025-01-30", "2025-05-30", 1, Unit.MONTHS, monthend=True)[2], ("2025-03-31", "2025-03-30"))
+        self.assertEqual(self.entries("2025-04-30", "2025-06-30", 1, Unit.MONTHS, monthend=True, **following)[1], ("2025-05-30", "2025-05-31"))
+        self.assertEqual(self.entries("2025-01-11", "2025-12-20", 3, Unit.MONTHS, rule=Rule.OLD_CDS, **following)[0], ("2025-01-11", "2025-01-11"))
+
+    def test_what_is_not_added_or_dropped_leaves_no_unadjusted_date(self) -> None:
+        following = {"convention": Convention.FOLLOWING, "terminal": Convention.FOLLOWING}
+        self.assertEqual(self.entries("2025-03-01", "2025-05-02", 1, Unit.MONTHS, **following)[0], ("2025-03-03", "2025-03-02"))
+        self.assertEqual(self.entries("2025-03-01", "2025-03-02", 1, Unit.DAYS, rule=Rule.FORWARD, **following), [("2025-03-03", "2025-03-01")])
+        self.assertEqual(self.entries("2025-02-28", "2025-03-02", 1, Unit.DAYS, rule=Rule.FORWARD, convention=Convention.FOLLOWING,
+                                      terminal=Convention.PRECEDING), [("2025-02-28", "2025-03-01")])
+        entries = self.entries("2025-01-20", "2025-03-10", 1, Unit.WEEKS, "2025-01-20", rule=Rule.THIRD_WEDNESDAY, **following)
+        self.assertEqual(entries[0], ("2025-01-21", "2025-01-20"))
+        self.assertNotIn("2025-01-15", [before for _, before in entries])
+
+    def test_three_lists_of_one_length(self) -> None:
+        """1 comes before all else but a short record; a refusal leaves the three lists, and later places stay."""
+        def lent(dates: int, flags: int, unadjusted: int, record: int = 6, effective: int = 739252) -> int:
+            tenor = (1, Unit.MONTHS, Rule.BACKWARD, Convention.FOLLOWING, Convention.FOLLOWING, 0, 0, 0, h.WEEKENDS, None, 0)
+            return h._library.heronspan_build(effective, 739311, *tenor, days_lent, dates, flags_lent, flags, unadjusted_lent, unadjusted, answer, record)
+
+        days_lent, flags_lent = (ctypes.c_uint32 * 6)(*[7] * 6), (ctypes.c_uint8 * 6)(*[8] * 6)
+        unadjusted_lent, answer = (ctypes.c_uint32 * 6)(*[9] * 6), (ctypes.c_uint32 * 6)()
+        for lengths in ((2, 2, 1), (2, 1, 2), (1, 2, 2), (2, 1, 0), (5, 5, 6)):
+            self.assertEqual(lent(*lengths), -h.Refusal.UNEVEN, lengths)
+            self.assertEqual(lent(*lengths, effective=0), -h.Refusal.UNEVEN, lengths)
+            self.assertEqual(lent(*lengths, record=5), -h.Refusal.ROOM, lengths)
+        self.assertEqual(lent(2, 2, 2), -h.Refusal.ROOM)
+        self.assertEqual(lent(5, 5, 5, effective=0), -h.Refusal.BOOK)
+        self.assertEqual((list(days_lent), list(flags_lent), list(unadjusted_lent)), ([7] * 6, [8] * 6, [9] * 6))
+        self.assertEqual(lent(5, 5, 5), 3)
+        numbers = [day.toordinal() for day in days("2025-01-01", "2025-02-03", "2025-03-03")]
+        self.assertEqual(list(days_lent), [*numbers, 7, 7, 7])
+        self.assertEqual(list(flags_lent), [1, 1, 8, 8, 8, 8])
+        numbers = [day.toordinal() for day in days("2025-01-01", "2025-02-01", "2025-03-01")]
+        self.assertEqual(list(unadjusted_lent), [*numbers, 9, 9, 9])
+
     def test_anchors(self) -> None:
         built = h.build(date(2025, 1, 15), date(2025, 7, 15), 3, Unit.MONTHS, first=date(2025, 2, 15))
         self.assertEqual(built.dates[:2], days("2025-01-15", "2025-02-15"))
@@ -278,7 +325,11 @@ class Schedules(Refusals):
         request = bytes.fromhex("01 0004 000B436C 02 0004 000B4403 03 0003 4D0001 FF 0000")
         built = h.build_bytes(request)
         self.assertEqual(built.dates, [date(2022, month, 1) for month in range(1, 7)])
+        self.assertEqual(built.unadjusted, built.dates)
         self.assertEqual((built.regular, built.tries), ([True] * 5, 6))
+        adjusted = h.build_bytes(request[:-3] + bytes.fromhex("05 0001 01 06 0001 01 0A 0001 60") + request[-3:])
+        self.assertEqual((adjusted.dates[0], adjusted.dates[4]), (date(2022, 1, 3), date(2022, 5, 2)))
+        self.assertEqual(adjusted.unadjusted, built.dates)
         self.refused("REQUEST", h.build_bytes, request[:-1])
         self.refused("REQUEST", h.build_bytes, b"")
         self.refused("ROOM", h.build_bytes, request, room=5)

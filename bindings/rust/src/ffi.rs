@@ -127,6 +127,8 @@ extern "C" {
         dates_len: usize,
         flags: *mut u8,
         flags_len: usize,
+        unadjusted: *mut u32,
+        unadjusted_len: usize,
         answer: *mut u32,
         answer_len: usize,
     ) -> i64;
@@ -153,6 +155,8 @@ extern "C" {
         dates_len: usize,
         flags: *mut u8,
         flags_len: usize,
+        unadjusted: *mut u32,
+        unadjusted_len: usize,
         answer: *mut u32,
         answer_len: usize,
     ) -> i64;

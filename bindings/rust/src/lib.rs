@@ -527,10 +527,12 @@ pub mod imm {
     }
 }
 
-/// Dates, and for each period between them whether it is regular; the tries, and the rule and the tenor in force.
+/// Paid dates, for each the date that it was before adjustment, and for each period between them whether it is regular; the tries,
+/// and the rule and the tenor in force.
 #[derive(Clone, Debug, PartialEq, Eq)]
 pub struct Schedule {
     pub dates: Vec<Date>,
+    pub unadjusted: Vec<Date>,
     pub regular: Vec<bool>,
     pub tries: u32,
     pub rule: Rule,
@@ -661,7 +663,7 @@ impl Request {
 
     pub fn build(&self) -> Answer<Schedule> {
         let (closed, closed_len) = self.calendar.lent();
-        Schedule::lent(self.room, |dates, flags, record| unsafe {
+        Schedule::lent(self.room, |dates, flags, unadjusted, record| unsafe {
             ffi::heronspan_build(
                 self.effective.0,
                 self.termination.0,
@@ -680,6 +682,8 @@ impl Request {
                 dates.len(),
                 flags.as_mut_ptr(),
                 flags.len(),
+                unadjusted.as_mut_ptr(),
+                unadjusted.len(),
                 record.as_mut_ptr(),
                 record.len(),
             )
@@ -739,7 +743,7 @@ impl Schedule {
 
     /// The schedule that the bytes of a request ask for, with room for `room` dates.
     pub fn from_bytes(bytes: &[u8], room: usize) -> Answer<Schedule> {
-        Schedule::lent(room, |dates, flags, record| unsafe {
+        Schedule::lent(room, |dates, flags, unadjusted, record| unsafe {
             ffi::heronspan_build_bytes(
                 bytes.as_ptr(),
                 bytes.len(),
@@ -747,6 +751,8 @@ impl Schedule {
                 dates.len(),
                 flags.as_mut_ptr(),
                 flags.len(),
+                unadjusted.as_mut_ptr(),
+                unadjusted.len(),
                 record.as_mut_ptr(),
                 record.len(),
             )
@@ -754,13 +760,16 @@ impl Schedule {
     }
 
     /// What a build leaves in the lists that are lent to it.
-    fn lent(room: usize, build: impl FnOnce(&mut [u32], &mut [u8], &mut [u32; 6]) -> i64) -> Answer<Schedule> {
+    fn lent(room: usize, build: impl FnOnce(&mut [u32], &mut [u8], &mut [u32], &mut [u32; 6]) -> i64) -> Answer<Schedule> {
         let mut dates = vec![0u32; room];
         let mut flags = vec![0u8; room];
+        let mut unadjusted = vec![0u32; room];
         let mut record = [0u32; 6];
-        let count = told(build(&mut dates, &mut flags, &mut record))? as usize;
+        let count = told(build(&mut dates, &mut flags, &mut unadjusted, &mut record))? as usize;
+        let given = |list: &[u32]| list[..count].iter().map(|&n| Date(n)).collect();
         Ok(Schedule {
-            dates: dates[..count].iter().map(|&n| Date(n)).collect(),
+            dates: given(&dates),
+            unadjusted: given(&unadjusted),
             regular: flags[..count.saturating_sub(1)].iter().map(|&flag| flag == 1).collect(),
             tries: record[2],
             rule: RULES[record[3] as usize],

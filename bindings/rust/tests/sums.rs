@@ -139,6 +139,7 @@ fn schedules() {
     let built = quarterly().build().unwrap();
     let dates = [day(2025, 1, 15), day(2025, 3, 20), day(2025, 6, 20), day(2025, 9, 20), day(2025, 12, 20)];
     assert_eq!(built.dates, dates);
+    assert_eq!(built.unadjusted, dates);
     assert_eq!(built.regular, [false, true, true, true]);
     assert_eq!((built.tries, built.rule, built.tenor, built.unit), (4, Rule::Backward, 3, Unit::Months));
     assert_eq!(quarterly().room(5).build(), Ok(built));
@@ -155,6 +156,29 @@ fn the_last_date_has_its_own_convention() {
     assert_eq!(built.dates[3..], [day(2025, 9, 22), day(2025, 12, 20)]);
     let built = quarterly().calendar(weekends).terminal(Convention::Following).build().unwrap();
     assert_eq!(built.dates[3..], [day(2025, 9, 20), day(2025, 12, 22)]);
+}
+
+/// Paid and unadjusted dates, both conventions the same and weekends closed.
+fn entries(request: Request, convention: Convention) -> Vec<(Date, Date)> {
+    let weekends = Calendar::new(Calendar::WEEKENDS, &[]).unwrap();
+    let built = request.convention(convention).terminal(convention).calendar(weekends).build().unwrap();
+    assert_eq!(built.dates.len(), built.unadjusted.len());
+    built.dates.into_iter().zip(built.unadjusted).collect()
+}
+
+#[test]
+fn unadjusted_dates() {
+    let monthly = |effective, termination| Request::new(effective, termination, 1, Unit::Months);
+    let last = entries(quarterly(), Convention::Following)[4];
+    assert_eq!(last, (day(2025, 12, 22), day(2025, 12, 20)));
+    let month_ends = entries(monthly(day(2025, 4, 30), day(2025, 6, 30)).monthend(true), Convention::Following);
+    assert_eq!(month_ends[1], (day(2025, 5, 30), day(2025, 5, 31)));
+    let month_ends = entries(monthly(day(2025, 1, 30), day(2025, 5, 30)).monthend(true), Convention::Unadjusted);
+    assert_eq!(month_ends[2], (day(2025, 3, 31), day(2025, 3, 30)));
+    let not_added = entries(monthly(day(2025, 3, 1), day(2025, 5, 2)), Convention::Following);
+    assert_eq!(not_added[0], (day(2025, 3, 3), day(2025, 3, 2)));
+    let daily = Request::new(day(2025, 3, 1), day(2025, 3, 2), 1, Unit::Days).rule(Rule::Forward);
+    assert_eq!(entries(daily, Convention::Following), [(day(2025, 3, 3), day(2025, 3, 1))]);
 }
 
 #[test]
@@ -211,6 +235,7 @@ fn request_bytes() {
     ];
     let built = Schedule::from_bytes(&request, 6).unwrap();
     assert_eq!(built.dates, (1..=6).map(|month| day(2022, month, 1)).collect::<Vec<_>>());
+    assert_eq!(built.unadjusted, built.dates);
     assert_eq!(built.tries, 6);
     assert_eq!(Schedule::from_bytes(&request, 5), Err(Refusal::Room));
     assert_eq!(Schedule::from_bytes(&request[..22], 6), Err(Refusal::Request));

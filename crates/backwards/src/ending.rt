@@ -1,19 +1,19 @@
 // The last dates of a backward build: the first date where the loop ended at it, and the effective date.
-ghost use mathlib.Core.Path.{_≡_};
 ghost use mathlib.Core.Bool.{true};
-ghost use Prim.Native.Nat.{_-_};
 ghost use Rattle.steps.specs.Generate.{ended, backwardEnd};
 ghost use Rattle.working.specs.Part.{working, held};
 ghost use Rattle.working.specs.Turning.{Ahead};
 ghost use Rattle.working.specs.Adding.{Adds};
-ghost use Rattle.working.specs.Making.{Makes};
+ghost use Rattle.working.specs.Making.{Ends, LiesBack};
 use steps::Request;
 use working::Adjusting;
 use working::Generated;
 use working::Piece;
+use working::Round;
 use working::Tip;
 use working::adds;
 use working::adds::Added;
+use working::lists;
 
 // The first date where the loop ended at it, then the effective date.
 fn end(
@@ -56,36 +56,30 @@ fn end(
     )
 }
 
-// Where n dates begin that fill a working list from its far end.
-fn far_place(n: usize) -> usize
-    ensures { λ r. ⌜ r ≡ 4096 - n ⌝ }
-{
-    if n < 4096 { 4096 - n } else { 0 }
-}
-
 // What is left once the loop has ended.
 pub(crate) fn backward_end(
     q: Request,
     closed: &[u32],
     tip: Tip,
     room: usize,
-    tries: u32,
-    seed: u32,
+    round: Round,
     work: &mut [u32],
     marks: &mut [u8],
 ) -> Generated
-    ensures { λ r. ⌜ Makes (Ahead (q .mask) (now (closed .entry)) (q .convention) true room (working (now (work .entry)) (now (marks .entry))) tip) room (backwardEnd q (now (closed .entry)) room tries seed (held true (tip .n) (working (now (work .entry)) (now (marks .entry))))) r (working (now (work .exit)) (now (marks .exit))) ⌝ }
+    ensures { λ r. ⌜ Ends (Ahead (q .mask) (now (closed .entry)) (q .convention) true room (working (now (work .entry)) (now (marks .entry))) tip) (LiesBack room (round .start) (tip .n) (working (now (work .exit)) (now (marks .exit)))) (backwardEnd q (now (closed .entry)) room (round .tries) (round .seed) (held true (tip .n) (working (now (work .entry)) (now (marks .entry))))) r (working (now (work .exit)) (now (marks .exit))) ⌝ }
 {
     let last = match end(q, closed, tip, room, work, marks) {
         Added::Refused(k) => return Generated::Refused(k),
         Added::Ready(t) => t,
     };
-    let from = far_place(last.n);
+    let from = lists::surplus(4096, last.n);
     Generated::Ready(Piece {
         from,
         marked: from,
         n: last.n,
-        tries,
-        seed,
+        known: lists::surplus(last.n, tip.n),
+        beyond: lists::surplus(last.n, round.start),
+        tries: round.tries,
+        seed: round.seed,
     })
 }

@@ -1,18 +1,20 @@
 // Backward builds: from termination back to the effective date.
 ghost use mathlib.Core.Path.{_≡_};
 ghost use mathlib.Core.Bool.{true};
+ghost use lib.ListN.{length};
+ghost use Rattle.calendar.specs.Adjust.{adjusted};
 ghost use Rattle.steps.specs.Rules.{paceOf};
-ghost use Rattle.steps.specs.Fewer.Steps.{keptFrom, keptBackward};
+ghost use Rattle.steps.specs.Generate.{backwardFrom, backward};
 ghost use Rattle.working.specs.Part.{working, Begun, held};
 ghost use Rattle.working.specs.Making.{Blank, Makes};
 use steps::Pace;
 use steps::Request;
-use steps::rules;
 use steps::seeds;
 use working::Adjusting;
 use working::Course;
 use working::Filled;
 use working::Generated;
+use working::Round;
 use working::candidates;
 use working::walks;
 use working::walks::Walked;
@@ -30,14 +32,15 @@ fn backward_from(
     n: usize,
     room: usize,
     work: &mut [u32],
+    paid: &mut [u32],
     marks: &mut [u8],
 ) -> Generated
-    ensures { λ r. ⌜ Makes ((pace ≡ paceOf (q .tenor)) × Begun (now (closed .entry)) room n (working (now (work .entry)) (now (marks .entry)))) room (keptFrom q (now (closed .entry)) room (held true n (working (now (work .entry)) (now (marks .entry))))) r (working (now (work .exit)) (now (marks .exit))) ⌝ }
+    ensures { λ r. ⌜ Makes ((pace ≡ paceOf (q .tenor)) × (Begun (now (closed .entry)) room n (working (now (work .entry)) (now (marks .entry))) × (length (now (paid .entry)) ≡ 4096))) (adjusted (q .mask) (now (closed .entry)) (q .convention)) room (backwardFrom q (now (closed .entry)) room (held true n (working (now (work .entry)) (now (marks .entry))))) r (working (now (work .exit)) (now (marks .exit))) (now (paid .exit)) ⌝ }
 {
     let convention = q.convention;
     let day = seeds::anchor_or(q.penultimate.day, q.termination.day);
     let course = Course {
-        settled: rules::settles(q),
+        back: true,
         pace,
         seed: seeds::seed_of(q.monthend, day),
         exit: seeds::anchor_or(q.first.day, q.effective.day),
@@ -46,11 +49,16 @@ fn backward_from(
         convention,
         mask: q.mask,
     };
-    let walked = walks::walk(course, true, room, adjusting, closed, n, work, marks);
+    let walked = walks::walk(course, room, adjusting, closed, n, work, paid, marks);
     match walked {
         Walked::Refused(k) => Generated::Refused(k),
         Walked::Ready { tip, tries } => {
-            ending::backward_end(q, closed, tip, room, tries, day, work, marks)
+            let round = Round {
+                start: n,
+                tries,
+                seed: day,
+            };
+            ending::backward_end(q, closed, tip, room, round, work, marks)
         }
     }
 }
@@ -61,9 +69,10 @@ pub fn backward(
     closed: &[u32],
     room: usize,
     work: &mut [u32],
+    paid: &mut [u32],
     marks: &mut [u8],
 ) -> Generated
-    ensures { λ r. ⌜ Makes (Blank q (now (closed .entry)) room (working (now (work .entry)) (now (marks .entry)))) room (keptBackward q (now (closed .entry)) room) r (working (now (work .exit)) (now (marks .exit))) ⌝ }
+    ensures { λ r. ⌜ Makes (Blank q (now (closed .entry)) room (working (now (work .entry)) (now (marks .entry))) (now (paid .entry))) (adjusted (q .mask) (now (closed .entry)) (q .convention)) room (backward q (now (closed .entry)) room) r (working (now (work .exit)) (now (marks .exit))) (now (paid .exit)) ⌝ }
 {
     let tenor = q.tenor;
     let pace = candidates::pace_of(tenor);
@@ -74,5 +83,5 @@ pub fn backward(
         Filled::Refused(k) => return Generated::Refused(k),
         Filled::Ready(n) => n,
     };
-    backward_from(q, closed, pace, n, room, work, marks)
+    backward_from(q, closed, pace, n, room, work, paid, marks)
 }

@@ -14,7 +14,7 @@ use crossing::requests::FromNumbers;
 use date::Date;
 
 // Builds a schedule: the dates into the start of `dates`, the flags of the periods between them (1 regular) into the start
-// of `flags`, and the count of dates is answered. The start of `answer` then holds the refusal's number or 0, the count of
+// of `flags`, each date's unadjusted one into the start of `unadjusted`, and the count of dates is answered. The start of `answer` then holds the refusal's number or 0, the count of
 // dates, the tries, the rule in force, and the size and the unit of the tenor in force.
 #[no_mangle]
 pub extern "C" fn heronspan_build(
@@ -32,9 +32,10 @@ pub extern "C" fn heronspan_build(
     closed: &[u32],
     dates: &mut [u32],
     flags: &mut [u8],
+    unadjusted: &mut [u32],
     answer: &mut [u32],
 ) -> i64
-    ensures { λ r. ⌜ Reported (requestOf effective termination tenor unit rule convention terminal monthend first penultimate mask) (now (closed .entry)) r (now (dates .entry)) (now (flags .entry)) (now (answer .entry)) (now (dates .exit)) (now (flags .exit)) (now (answer .exit)) ⌝ }
+    ensures { λ r. ⌜ Reported (requestOf effective termination tenor unit rule convention terminal monthend first penultimate mask) (now (closed .entry)) r (now (dates .entry)) (now (flags .entry)) (now (unadjusted .entry)) (now (answer .entry)) (now (dates .exit)) (now (flags .exit)) (now (unadjusted .exit)) (now (answer .exit)) ⌝ }
 {
     let request = requests::request_of(
         effective,
@@ -49,7 +50,7 @@ pub extern "C" fn heronspan_build(
         penultimate,
         mask,
     );
-    recorded::build(request, closed, dates, flags, answer)
+    recorded::build(request, closed, dates, flags, unadjusted, answer)
 }
 
 // The same as `heronspan_build`, from the bytes of a request.
@@ -58,11 +59,12 @@ pub extern "C" fn heronspan_build_bytes(
     bytes: &[u8],
     dates: &mut [u32],
     flags: &mut [u8],
+    unadjusted: &mut [u32],
     answer: &mut [u32],
 ) -> i64
-    ensures { λ r. ⌜ Reported (requestIn (decoded (now (bytes .entry)) 4096)) (closedIn (decoded (now (bytes .entry)) 4096)) r (now (dates .entry)) (now (flags .entry)) (now (answer .entry)) (now (dates .exit)) (now (flags .exit)) (now (answer .exit)) ⌝ }
+    ensures { λ r. ⌜ Reported (requestIn (decoded (now (bytes .entry)) 4096)) (closedIn (decoded (now (bytes .entry)) 4096)) r (now (dates .entry)) (now (flags .entry)) (now (unadjusted .entry)) (now (answer .entry)) (now (dates .exit)) (now (flags .exit)) (now (unadjusted .exit)) (now (answer .exit)) ⌝ }
 {
-    recorded::build_bytes(bytes, dates, flags, answer)
+    recorded::build_bytes(bytes, dates, flags, unadjusted, answer)
 }
 
 // The first date after the asked day of the schedule of a request in numbers, without the schedule: 0 where there is no later

@@ -1,4 +1,5 @@
 pub mod Moves
+pub mod Pays
 pub mod Merging
 pub mod Copying
 pub mod Ending

@@ -18,35 +18,35 @@ use Rattle.date.specs.declared.Dated.{Dated}
 use Rattle.date.specs.declared.Dated.the-variants as dated-is
 use Rattle.date.specs.Date.{dated}
 use Rattle.date.specs.Laws.Made.{given-day, refused-day}
-use Rattle.calendar.specs.declared.Convention.{Convention}
-use Rattle.calendar.specs.declared.Decided.{Decided}
-use Rattle.calendar.specs.declared.Decided.the-variants as decided-is
 use Rattle.calendar.specs.Open.{closedOk}
-use Rattle.calendar.specs.Inner.Always.{conventionOn, on-as}
-use Rattle.calendar.specs.Adjust.{adjusted}
-use Rattle.calendar.specs.Calendar.{decided}
 use Rattle.steps.specs.declared.Move.{Move}
 use Rattle.steps.specs.declared.Move.the-variants.{ThirdWednesdays}
 use Rattle.steps.specs.declared.Rule.{Rule}
 use Rattle.steps.specs.declared.Rule.the-variants.{ThirdWednesday, ThirdWednesdayInclusive}
-use Rattle.steps.specs.declared.Request.{Request}
 use Rattle.steps.specs.Rules.{rules, ruleNumber, oneOf}
 use Rattle.steps.specs.Laws.Rules.{agree, keep, keysOf, tagsAre, told}
 use Rattle.steps.proofs.Rule.{the-type}
-use Rattle.steps.specs.Finish.{moved, each, between, onFirst, onLast, onMiddle, firstMove, lastMove, middleMove, seedAtEnd, wednesdaysBy, wednesdays}
-use Rattle.steps.specs.Fewer.Steps.{settles, middleUnless, lastAndMiddle, fewAdjustments}
+use Rattle.steps.specs.Finish.{moved, each, between, onLast, onMiddle, wednesdaysBy, wednesdays}
 use Rattle.finish.specs.declared.moving.Done.{Done}
 use Rattle.finish.specs.declared.moving.Done.the-variants.{Whole, Refused}
 use Rattle.finish.specs.Moving.{done}
+use Rattle.finish.specs.Paying.{payBetween}
 
--- the first i stand as they are, the rest is still to be moved
-unfoldable pub rest : (ℕ → Answer ℕ) → ℕ → List ℕ → Answer (List ℕ)
-rest f i s = then (each f (drop i s)) (λ ys. given (take i s ++ ys))
+-- the first i of one list stand, the rest is still to be made of another
+unfoldable pub rest : (ℕ → Answer ℕ) → ℕ → List ℕ → List ℕ → Answer (List ℕ)
+rest f i src dst = then (each f (drop i src)) (λ ys. given (take i dst ++ ys))
 
+-- dates moved in place
 pub record Underway (mask : ℕ) (closed : List ℕ) (what : Move) (s₀ s : List ℕ) (i : ℕ) : Type 0 where
   pub within : i ≤ length s
   pub size : length s ≡ length s₀
-  pub same : closedOk closed ≡ true → rest (moved mask closed what) i s ≡ each (moved mask closed what) s₀
+  pub same : closedOk closed ≡ true → rest (moved mask closed what) i s s ≡ each (moved mask closed what) s₀
+
+-- dates moved into another list
+pub record Beside (mask : ℕ) (closed : List ℕ) (what : Move) (src dst₀ dst : List ℕ) (i : ℕ) : Type 0 where
+  pub within : i ≤ length src
+  pub size : length dst ≡ length dst₀
+  pub same : closedOk closed ≡ true → rest (moved mask closed what) i src dst ≡ each (moved mask closed what) src
 
 then-same : (a : Answer (List ℕ)) → then a (λ ys. given ys) ≡ a
 unfolding then
@@ -58,45 +58,45 @@ unfolding then
 one-on p y (given ys) = ap (λ (l : List ℕ). given l) (sym (append-snoc p y ys))
 one-on p y (refused n) = refl
 
-rest-all : (f : ℕ → Answer ℕ) (s : List ℕ) → rest f 0 s ≡ each f s
+rest-all : (f : ℕ → Answer ℕ) (src dst : List ℕ) → rest f 0 src dst ≡ each f src
 unfolding rest
-rest-all f s = then-same (each f s)
+rest-all f src dst = then-same (each f src)
 
-module _ (f : ℕ → Answer ℕ) (s : List ℕ) (i : ℕ) where
-  module _ (h : i < length s) where
-    opened : rest f i s ≡ then (then (f (getD s i 0)) (λ y. then (each f (drop (suc i) s)) (λ ys. given (y ∷ ys)))) (λ ys. given (take i s ++ ys))
+module _ (f : ℕ → Answer ℕ) (src dst : List ℕ) (i : ℕ) where
+  module _ (h : i < length src) where
+    opened : rest f i src dst ≡ then (then (f (getD src i 0)) (λ y. then (each f (drop (suc i) src)) (λ ys. given (y ∷ ys)))) (λ ys. given (take i dst ++ ys))
     unfolding rest each
-    opened = rw (drop-cons s i 0 h)
+    opened = rw (drop-cons src i 0 h)
 
-    rest-refused : (n : ℕ) → f (getD s i 0) ≡ refused n → rest f i s ≡ refused n
+    rest-refused : (n : ℕ) → f (getD src i 0) ≡ refused n → rest f i src dst ≡ refused n
     unfolding then
     rest-refused n e = opened ∙ rw e
 
-    after : (y : ℕ) → rest f (i + 1) (set s i y) ≡ then (each f (drop (suc i) s)) (λ ys. given ((take i s ++ (y ∷ [])) ++ ys))
+    after : (src′ : List ℕ) (y : ℕ) → i < length dst → drop (suc i) src′ ≡ drop (suc i) src → rest f (i + 1) src′ (set dst i y) ≡ then (each f (drop (suc i) src)) (λ ys. given ((take i dst ++ (y ∷ [])) ++ ys))
     unfolding rest
-    after y = rw (add-one i, drop-set-lt (suc i) s i y (omega arith), take-suc-set s i y h)
+    after src′ y l d = rw (add-one i, d, take-suc-set dst i y l)
 
-    rest-moved : (y : ℕ) → f (getD s i 0) ≡ given y → rest f i s ≡ rest f (i + 1) (set s i y)
+    rest-moved : (src′ : List ℕ) (y : ℕ) → i < length dst → drop (suc i) src′ ≡ drop (suc i) src → f (getD src i 0) ≡ given y → rest f i src dst ≡ rest f (i + 1) src′ (set dst i y)
     unfolding then
-    rest-moved y e = opened ∙ rw e (one-on (take i s) y (each f (drop (suc i) s)) ∙ sym (after y))
+    rest-moved src′ y l d e = opened ∙ rw e (one-on (take i dst) y (each f (drop (suc i) src)) ∙ sym (after src′ y l d))
 
-  rest-none : length s ≤ i → rest f i s ≡ given s
+  rest-none : length src ≤ i → length dst ≤ i → rest f i src dst ≡ given dst
   unfolding rest each then
-  rest-none h = rw (drop-of-length-le s {i = i} h, append-nil, take-all i s h)
+  rest-none h l = rw (drop-of-length-le src {i = i} h, append-nil, take-all i dst l)
 
--- ---- the loop
+-- ---- the loop in place
 pub underway-none : (mask : ℕ) (closed : List ℕ) (what : Move) (s : List ℕ) → Underway mask closed what s s 0
-underway-none mask closed what s = record { within = omega arith; size = refl; same = λ ok. rest-all (moved mask closed what) s }
+underway-none mask closed what s = record { within = omega arith; size = refl; same = λ ok. rest-all (moved mask closed what) s s }
 
 module _ {mask : ℕ} {closed : List ℕ} {what : Move} {s₀ s : List ℕ} {i : ℕ} (u : Underway mask closed what s₀ s i) where
   pub underway-whole : length s ≤ i → closedOk closed ≡ true → done Whole s ≡ each (moved mask closed what) s₀
   unfolding done
-  underway-whole h ok = sym (rest-none (moved mask closed what) s i h) ∙ u .same ok
+  underway-whole h ok = sym (rest-none (moved mask closed what) s s i h h) ∙ u .same ok
 
   module _ (h : i < length s) (r : Dated) (p : closedOk closed ≡ true → dated r ≡ moved mask closed what (getD s i 0)) where
     pub underway-refused : (n : ℕ) → r ≡ dated-is.Refused n → closedOk closed ≡ true → done (Refused n) s ≡ each (moved mask closed what) s₀
     unfolding done
-    underway-refused n e ok = sym (rest-refused (moved mask closed what) s i h n (refused-day r n _ (p ok) e)) ∙ u .same ok
+    underway-refused n e ok = sym (rest-refused (moved mask closed what) s s i h n (refused-day r n _ (p ok) e)) ∙ u .same ok
 
     pub underway-moved : (d : Date) → r ≡ dated-is.Day d → Underway mask closed what s₀ (set s i (d .day)) (i + 1)
     underway-moved d e =
@@ -104,10 +104,35 @@ module _ {mask : ℕ} {closed : List ℕ} {what : Move} {s₀ s : List ℕ} {i :
         record {
           within = omega arith;
           size = l ∙ u .size;
-          same = λ ok. sym (rest-moved (moved mask closed what) s i h (d .day) (given-day r d _ (p ok) e)) ∙ u .same ok;
+          same = λ ok. sym (rest-moved (moved mask closed what) s s i h (set s i (d .day)) (d .day) h (drop-set-lt (suc i) s i (d .day) (omega arith)) (given-day r d _ (p ok) e)) ∙ u .same ok;
         }
 
 pub ruleset moving = (underway-none, underway-whole, underway-refused, underway-moved, needs)
+
+-- ---- the loop into another list
+pub beside-none : (mask : ℕ) (closed : List ℕ) (what : Move) (src dst : List ℕ) → Beside mask closed what src dst dst 0
+beside-none mask closed what src dst = record { within = omega arith; size = refl; same = λ ok. rest-all (moved mask closed what) src dst }
+
+module _ {mask : ℕ} {closed : List ℕ} {what : Move} {src dst₀ dst : List ℕ} {i : ℕ} (u : Beside mask closed what src dst₀ dst i) (even : length src ≡ length dst₀) where
+  pub beside-whole : length src ≤ i → closedOk closed ≡ true → done Whole dst ≡ each (moved mask closed what) src
+  unfolding done
+  beside-whole h ok = sym (rest-none (moved mask closed what) src dst i h (let s = u .size in omega arith)) ∙ u .same ok
+
+  module _ (h : i < length src) (r : Dated) (p : closedOk closed ≡ true → dated r ≡ moved mask closed what (getD src i 0)) where
+    pub beside-refused : (n : ℕ) → r ≡ dated-is.Refused n → closedOk closed ≡ true → done (Refused n) dst ≡ each (moved mask closed what) src
+    unfolding done
+    beside-refused n e ok = sym (rest-refused (moved mask closed what) src dst i h n (refused-day r n _ (p ok) e)) ∙ u .same ok
+
+    pub beside-moved : (d : Date) → r ≡ dated-is.Day d → Beside mask closed what src dst₀ (set dst i (d .day)) (i + 1)
+    beside-moved d e =
+        let s = u .size in
+        record {
+          within = omega arith;
+          size = length-set dst i (d .day) ∙ s;
+          same = λ ok. sym (rest-moved (moved mask closed what) src dst i h src (d .day) (omega arith) refl (given-day r d _ (p ok) e)) ∙ u .same ok;
+        }
+
+pub ruleset besides = (beside-none, beside-whole, beside-refused, beside-moved, needs)
 
 -- ---- a part
 pub part-moved : {P : Type 0} (ok : P) (f : ℕ → Answer ℕ) (a b : ℕ) (s ys : List ℕ) (r : Done) → a ≤ b → (P → done r ys ≡ each f (take (b - a) (drop a s))) → done r (putMid a (b - a) s ys) ≡ between f a b s
@@ -115,7 +140,12 @@ unfolding between done then
 part-moved ok f a b s ys Whole h e = rw (← e ok, post-is a b s h)
 part-moved ok f a b s ys (Refused n) h e = rw (← e ok)
 
--- ---- the first, the last, the middle
+pub part-paid : {P : Type 0} (ok : P) (f : ℕ → Answer ℕ) (a b : ℕ) (work paid ys : List ℕ) (r : Done) → a ≤ b → (P → done r ys ≡ each f (take (b - a) (drop a work))) → done r (putMid a (b - a) paid ys) ≡ payBetween f a b work paid
+unfolding payBetween done then
+part-paid ok f a b work paid ys Whole h e = rw (← e ok, post-is a b paid h)
+part-paid ok f a b work paid ys (Refused n) h e = rw (← e ok)
+
+-- ---- the last, the middle
 pub middle-none : (f : ℕ → Answer ℕ) (ds : List ℕ) → length ds < 2 → done Whole ds ≡ onMiddle f ds
 unfolding onMiddle between done then each
 middle-none f ds h =
@@ -127,10 +157,6 @@ unfolding onMiddle
 middle-some ok f ds ds′ r h e =
     let a : 1 + (length ds - 2) ≡ length ds - 1 = omega arith in
     e ok ∙ rw a
-
-pub first-some : {P : Type 0} (ok : P) (f : ℕ → Answer ℕ) (ds ds′ : List ℕ) (r : Done) → (P → done r ds′ ≡ between f 0 1 ds) → done r ds′ ≡ onFirst f ds
-unfolding onFirst
-first-some ok f ds ds′ r e = e ok
 
 pub last-some : {P : Type 0} (ok : P) (f : ℕ → Answer ℕ) (ds ds′ : List ℕ) (r : Done) → (P → done r ds′ ≡ between f (length ds - 1) (length ds) ds) → done r ds′ ≡ onLast f ds
 unfolding onLast
@@ -170,51 +196,3 @@ module _ {A : Type 0} (f : List ℕ → Answer A) (o : Answer (List ℕ)) (r : D
   pub done-on : (x : Answer A) → r ≡ Whole → x ≡ f ds → x ≡ then o f
   unfolding done then
   done-on x e h = rw (← p, e) h
-
--- ---- the adjustments
--- two conventions that adjust every day alike move it alike
-move-alike : (mask : ℕ) (closed : List ℕ) (a b : Convention) → adjusted mask closed a ≡ adjusted mask closed b → moved mask closed (middleMove false a) ≡ moved mask closed (middleMove false b)
-unfolding moved middleMove
-move-alike mask closed a b e = λ i day. e i day
-
-module _ (q : Request) (closed : List ℕ) (seed : ℕ) (ds : List ℕ) where
-  pub settled-whole : (s : Bool) → s ≡ settles q → s ≡ true → done Whole ds ≡ middleUnless (settles q) q closed seed ds
-  unfolding middleUnless done
-  settled-whole s a t = rw (← a, t)
-
-  module _ (s : Bool) (a : s ≡ settles q) (l : s ≡ false) (end : Decided) (p : closedOk closed ≡ true → decided end ≡ seedAtEnd (q .monthend) (q .mask) closed seed) (ok : closedOk closed ≡ true) where
-    pub seed-refused : (n : ℕ) → end ≡ decided-is.Refused n → done (Refused n) ds ≡ middleUnless (settles q) q closed seed ds
-    unfolding middleUnless decided then done
-    seed-refused n e = rw (← a, l, ← p ok, e)
-
-    module _ (what : Move) (r : Done) (ds′ : List ℕ) (m : closedOk closed ≡ true → done r ds′ ≡ onMiddle (moved (q .mask) closed what) ds) where
-      pub seed-at-end : end ≡ decided-is.Yes → what ≡ middleMove true (q .convention) → done r ds′ ≡ middleUnless (settles q) q closed seed ds
-      unfolding middleUnless decided then
-      seed-at-end e w = rw (← a, l, ← p ok, e, ← w) (m ok)
-
-      pub seed-within : (way : Convention) → way ≡ conventionOn (q .mask) closed (q .convention) → end ≡ decided-is.No → what ≡ middleMove false way → done r ds′ ≡ middleUnless (settles q) q closed seed ds
-      unfolding middleUnless decided then
-      seed-within way on e w =
-          rw (← a, l, ← p ok, e)
-          (rw w at (m ok) ∙ ap (λ (f : ℕ → Answer ℕ). onMiddle f ds) (move-alike (q .mask) closed way (q .convention) (on-as (q .mask) closed way (q .convention) on)))
-
-  module _ (ok : closedOk closed ≡ true) (what : Move) (r : Done) (ds₁ : List ℕ) where
-    module _ (w : what ≡ lastMove q) (p : closedOk closed ≡ true → done r ds₁ ≡ onLast (moved (q .mask) closed what) ds) where
-      pub last-refused : (n : ℕ) → r ≡ Refused n → done (Refused n) ds₁ ≡ lastAndMiddle q closed seed ds
-      unfolding lastAndMiddle done
-      last-refused n e = done-refused (middleUnless (settles q) q closed seed) _ r ds₁ (rw w at (p ok)) n e
-
-      pub last-on : (t : Done) (ds₂ : List ℕ) → r ≡ Whole → (closedOk closed ≡ true → done t ds₂ ≡ middleUnless (settles q) q closed seed ds₁) → done t ds₂ ≡ lastAndMiddle q closed seed ds
-      unfolding lastAndMiddle
-      last-on t ds₂ e h = done-on (middleUnless (settles q) q closed seed) _ r ds₁ (rw w at (p ok)) _ e (h ok)
-
-    module _ (w : what ≡ firstMove q) (p : closedOk closed ≡ true → done r ds₁ ≡ onFirst (moved (q .mask) closed what) ds) where
-      pub first-refused : (n : ℕ) → r ≡ Refused n → done (Refused n) ds₁ ≡ fewAdjustments q closed seed ds
-      unfolding fewAdjustments done
-      first-refused n e = done-refused (lastAndMiddle q closed seed) _ r ds₁ (rw w at (p ok)) n e
-
-      pub first-on : (t : Done) (ds₂ : List ℕ) → r ≡ Whole → (closedOk closed ≡ true → done t ds₂ ≡ lastAndMiddle q closed seed ds₁) → done t ds₂ ≡ fewAdjustments q closed seed ds
-      unfolding fewAdjustments
-      first-on t ds₂ e h = done-on (lastAndMiddle q closed seed) _ r ds₁ (rw w at (p ok)) _ e (h ok)
-
-pub ruleset adjusting = (settled-whole, seed-refused, seed-at-end, seed-within, last-refused, last-on, first-refused, first-on, needs)

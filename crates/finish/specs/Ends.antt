@@ -6,6 +6,7 @@ use mathlib.Core.List.{List}
 use lib.ListN.{length, take, drop}
 use Rattle.refusal.specs.Answer.{Answer, given, refused}
 use Rattle.steps.specs.Finish.{Merged, mergeEnd, mergeFront}
+use Rattle.steps.specs.Build.{over}
 use Rattle.finish.specs.declared.merges.Start.{Start}
 use Rattle.finish.specs.declared.merges.Start.the-variants.{At, Refused}
 use Rattle.finish.specs.declared.merges.Left.{Left}
@@ -45,6 +46,18 @@ unfoldable pub Within : Left → ℕ → Type 0
 Within (left-is.Part from to) n = (from < to) × (to ≤ n)
 Within (left-is.Refused m) n = Unit {0}
 
+-- where the merge at the end left the last date
+unfoldable pub UpTo : Left → ℕ → Type 0
+UpTo (left-is.Part from to) n = to ≡ n
+UpTo (left-is.Refused m) n = Unit {0}
+
 pub record Merges (ds fs : List ℕ) (r : Left) (ds′ fs′ : List ℕ) : Type 0 where
   pub says : leftOf r ds′ fs′ ≡ mergeFront (mergeEnd ds fs)
   pub within : Within r (length ds)
+  pub up-to : UpTo r (length (mergeEnd ds fs .dates))
+
+-- the part from a place up to another, copied to the start of what was lent
+pub record CopiedOut (from to : ℕ) (work paid marks dates flags unadjusted dates′ flags′ unadjusted′ : List ℕ) : Type 0 where
+  pub dates-then : dates′ ≡ over (partOf from to paid marks .dates) dates
+  pub flags-then : flags′ ≡ over (partOf from to paid marks .flags) flags
+  pub unadjusted-then : unadjusted′ ≡ over (take (to - from) (drop from work)) unadjusted

@@ -11,26 +11,25 @@ use Rattle.date.specs.Civil.{pickN}
 use Rattle.steps.specs.declared.Request.{Request}
 use Rattle.steps.specs.declared.Built.{Built}
 use Rattle.steps.specs.Rules.{ruleInForce, tenorInForce}
-use Rattle.steps.specs.Finish.{Merged, mergeEnd, mergeFront}
-use Rattle.steps.specs.Fewer.Steps.{keptFinish}
-use Rattle.steps.specs.Build.{Schedule}
+use Rattle.steps.specs.Finish.{Merged}
+use Rattle.steps.specs.Entries.{Entries, pairsOf, mergedEntries}
 
--- the generated dates, the flags between them, and room for both
-pub record Lent (work marks dates flags : List ℕ) : Type 0 where
+-- the generated dates, a place for the paid date of each, the flags between them, and room for all
+pub record Lent (work paid marks dates flags unadjusted : List ℕ) : Type 0 where
   pub between : length work ≡ length marks + 1
+  pub beside : length work ≡ length paid
   pub most : length work ≤ 4096
   pub fits : length work ≤ length dates
   pub even : length dates ≡ length flags
+  pub even-third : length dates ≡ length unadjusted
 
 abbrev pub pair : List ℕ → List ℕ → Merged
 pair ds fs = record { dates = ds; flags = fs }
 
--- the schedule of what the merges leave
-unfoldable pub scheduled : ℕ → Merged → Answer Schedule
-scheduled tries done = given (record { dates = done .dates; flags = done .flags; tries = tries })
-
-unfoldable pub merges : List ℕ → List ℕ → Answer Merged
-merges fs ds = mergeFront (mergeEnd ds fs)
+-- the entries of what the merges leave
+unfoldable pub entered : ℕ → Merged → List ℕ → Answer Entries
+entered tries done unadjusted =
+    given (record { schedule = record { dates = done .dates; flags = done .flags; tries = tries }; unadjusted = unadjusted })
 
 -- ---- the answer's record
 unfoldable pub acceptedBuilt : Request → ℕ → ℕ → Built
@@ -38,15 +37,18 @@ acceptedBuilt q count tries =
     record { number = 0; count = count; tries = tries; rule = ruleInForce q; tenor = tenorInForce q }
 
 -- ---- the last steps on any lists: 1 where they do not belong together, 14 where the dates do not fit
-unfoldable pub lentRefusal : ℕ → ℕ → ℕ → ℕ → ℕ
-lentRefusal work marks dates flags =
-    pickN (eqb dates flags && eqb work (marks + 1)) (pickN (leb work (min dates 4096)) 0 ROOM) UNEVEN
+unfoldable pub lentRefusal : (work paid marks dates flags unadjusted : ℕ) → ℕ
+lentRefusal work paid marks dates flags unadjusted =
+    pickN (eqb dates flags && (eqb dates unadjusted && (eqb work paid && eqb work (marks + 1))))
+    (pickN (leb work (min dates 4096)) 0 ROOM)
+    UNEVEN
 
-unfoldable pub unlessRefused : ℕ → Answer Schedule → Answer Schedule
+unfoldable pub unlessRefused : ℕ → Answer Entries → Answer Entries
 unlessRefused zero o = o
 unlessRefused (suc n) o = refused (suc n)
 
-unfoldable pub completed : Request → List ℕ → ℕ → ℕ → List ℕ → List ℕ → ℕ → ℕ → Answer Schedule
-completed q closed seed tries work marks dates flags =
-    unlessRefused (lentRefusal (length work) (length marks) dates flags)
-    (then (keptFinish q closed seed work marks) (scheduled tries))
+-- `paid` is how many places are lent for paid dates; what they hold does not matter, but where it is known
+unfoldable pub completed : Request → (closed : List ℕ) (seed tries : ℕ) (work marks : List ℕ) (paid dates flags unadjusted : ℕ) → Answer Entries
+completed q closed seed tries work marks paid dates flags unadjusted =
+    unlessRefused (lentRefusal (length work) paid (length marks) dates flags unadjusted)
+    (then (pairsOf q closed seed work) (mergedEntries marks tries))

@@ -1,12 +1,15 @@
-// The dates after generating: third Wednesdays, then the first date, the last one and the middle ones.
+// The dates after generating: third Wednesdays, then the paid dates of the first, the last and the middle ones.
 ghost use mathlib.Core.Path.{_≡_};
 ghost use mathlib.Core.Bool.{true};
-ghost use Prim.Native.Nat.{_≤_};
+ghost use Prim.Native.Nat.{_+_, _-_, _≤_, min, max};
 ghost use lib.ListN.{length};
 ghost use Rattle.calendar.specs.Open.{closedOk};
-ghost use Rattle.steps.specs.Finish.{moved, onFirst, onLast, onMiddle, wednesdays};
-ghost use Rattle.steps.specs.Fewer.Steps.{settles, middleUnless, lastAndMiddle, fewAdjustments};
-ghost use Rattle.finish.specs.Moving.{done, movedAll};
+ghost use Rattle.calendar.specs.Adjust.{adjusted};
+ghost use Rattle.steps.specs.Finish.{moved, onLast, onMiddle, wednesdays, adjustments};
+ghost use Rattle.steps.specs.Entries.{pairsOf};
+ghost use Rattle.finish.specs.Moving.{done, paired};
+ghost use Rattle.finish.specs.Paying.{payBetween, PaidAlready, Narrowed, stillPaid, payLast, payMiddle};
+use crate::Paid;
 use crate::moving;
 use crate::moving::Done;
 use calendar::Decided;
@@ -27,13 +30,6 @@ fn move_middle(dates: &mut [u32], what: Move, mask: u8, closed: &[u32]) -> Done
         return Done::Whole;
     }
     moving::move_between(dates, 1, n - 1, what, mask, closed)
-}
-
-fn move_first(dates: &mut [u32], what: Move, mask: u8, closed: &[u32]) -> Done
-    requires { ⌜ 1 ≤ length (now dates) ⌝ }
-    ensures { λ r. ⌜ (closedOk (now (closed .entry)) ≡ true → done r (now (dates .exit)) ≡ onFirst (moved mask (now (closed .entry)) what) (now (dates .entry))) ⌝ }
-{
-    moving::move_between(dates, 0, 1, what, mask, closed)
 }
 
 fn move_last(dates: &mut [u32], what: Move, mask: u8, closed: &[u32]) -> Done
@@ -59,55 +55,160 @@ fn third_wednesdays(rule: Rule, mask: u8, closed: &[u32], dates: &mut [u32]) -> 
     }
 }
 
-// Middle dates that were kept as adjusted stay.
-fn adjust_middle(q: Request, closed: &[u32], seed: u32, dates: &mut [u32]) -> Done
-    ensures { λ r. ⌜ (closedOk (now (closed .entry)) ≡ true → done r (now (dates .exit)) ≡ middleUnless (settles q) q (now (closed .entry)) seed (now (dates .entry))) ⌝ }
+// Under a rule that moved the dates to third Wednesdays none is paid yet.
+fn still_paid(rule: Rule, known: Paid) -> Paid
+    ensures { λ r. ⌜ r ≡ stillPaid rule known ⌝ }
 {
-    if rules::settles(q) {
-        return Done::Whole;
+    match rule {
+        Rule::ThirdWednesday => Paid { from: 0, to: 0 },
+        Rule::ThirdWednesdayInclusive => Paid { from: 0, to: 0 },
+        _ => known,
     }
+}
+
+// Where the middle dates of n end.
+fn middle_end(n: usize) -> usize
+    ensures { λ r. ⌜ r ≡ 1 + (n - 2) ⌝ }
+{
+    if n < 2 { 1 } else { n - 1 }
+}
+
+fn at_least(a: usize, b: usize) -> usize
+    ensures { λ r. ⌜ r ≡ max a b ⌝ }
+{
+    if a < b { b } else { a }
+}
+
+fn at_most(a: usize, b: usize) -> usize
+    ensures { λ r. ⌜ r ≡ min a b ⌝ }
+{
+    if a < b { a } else { b }
+}
+
+// The paid ones among the middle dates of n; where there are none, an empty part behind them all.
+fn narrow(known: Paid, n: usize) -> Paid
+    ensures { λ r. ⌜ Narrowed n known r ⌝ }
+{
+    let last = middle_end(n);
+    let from = at_least(known.from, 1);
+    let to = at_most(known.to, last);
+    if from < to {
+        return Paid { from, to };
+    }
+    Paid {
+        from: last,
+        to: last,
+    }
+}
+
+// The middle dates that are not paid yet.
+fn pay_unpaid(
+    work: &[u32],
+    paid: &mut [u32],
+    known: Paid,
+    what: Move,
+    mask: u8,
+    closed: &[u32],
+) -> Done
+    requires { ⌜ (1 ≤ length (now work)) × (length (now work) ≡ length (now paid)) ⌝ }
+    requires { ⌜ (1 ≤ known .from) × (known .from ≤ known .to) × (known .to ≤ 1 + (length (now work) - 2)) ⌝ }
+    ensures { λ r. ⌜ (closedOk (now (closed .entry)) ≡ true → PaidAlready (moved mask (now (closed .entry)) what) (known .from) (known .to) (now (work .entry)) (now (paid .entry)) → done r (now (paid .exit)) ≡ payBetween (moved mask (now (closed .entry)) what) 1 (1 + (length (now (work .entry)) - 2)) (now (work .entry)) (now (paid .entry))) ⌝ }
+{
+    let end = middle_end(work.len());
+    let early = moving::pay_between(work, paid, 1, known.from, what, mask, closed);
+    match early {
+        Done::Whole => moving::pay_between(work, paid, known.to, end, what, mask, closed),
+        Done::Refused(k) => Done::Refused(k),
+    }
+}
+
+fn pay_middle(
+    q: Request,
+    closed: &[u32],
+    seed: u32,
+    known: Paid,
+    work: &[u32],
+    paid: &mut [u32],
+) -> Done
+    requires { ⌜ (1 ≤ length (now work)) × (length (now work) ≡ length (now paid)) ⌝ }
+    requires { ⌜ (1 ≤ known .from) × (known .from ≤ known .to) × (known .to ≤ 1 + (length (now work) - 2)) ⌝ }
+    ensures { λ r. ⌜ (closedOk (now (closed .entry)) ≡ true → PaidAlready (adjusted (q .mask) (now (closed .entry)) (q .convention)) (known .from) (known .to) (now (work .entry)) (now (paid .entry)) → done r (now (paid .exit)) ≡ payMiddle q (now (closed .entry)) seed (now (work .entry)) (now (paid .entry))) ⌝ }
+{
     let convention = q.convention;
     let end = seeds::seed_at_end(q.monthend, seed, q.mask, closed);
     match end {
-        Decided::Yes => move_middle(dates, moves::middle_move(true, convention), q.mask, closed),
+        Decided::Yes => {
+            let what = moves::middle_move(true, convention);
+            moving::pay_between(work, paid, 1, middle_end(work.len()), what, q.mask, closed)
+        }
         Decided::No => {
             let way = search::convention_on(convention, q.mask, closed);
-            move_middle(dates, moves::middle_move(false, way), q.mask, closed)
+            pay_unpaid(
+                work,
+                paid,
+                known,
+                moves::middle_move(false, way),
+                q.mask,
+                closed,
+            )
         }
         Decided::Refused(n) => Done::Refused(n),
     }
 }
 
-fn adjust_last(q: Request, closed: &[u32], seed: u32, dates: &mut [u32]) -> Done
-    requires { ⌜ 1 ≤ length (now dates) ⌝ }
-    ensures { λ r. ⌜ (closedOk (now (closed .entry)) ≡ true → done r (now (dates .exit)) ≡ lastAndMiddle q (now (closed .entry)) seed (now (dates .entry))) ⌝ }
+// The last date; where there is one date alone, what the first adjustment made of it.
+fn pay_last(q: Request, closed: &[u32], work: &[u32], paid: &mut [u32]) -> Done
+    requires { ⌜ (1 ≤ length (now work)) × (length (now work) ≡ length (now paid)) ⌝ }
+    ensures { λ r. ⌜ (closedOk (now (closed .entry)) ≡ true → done r (now (paid .exit)) ≡ payLast q (now (closed .entry)) (now (work .entry)) (now (paid .entry))) ⌝ }
 {
-    let moved = move_last(dates, moves::last_move(q), q.mask, closed);
-    match moved {
-        Done::Whole => adjust_middle(q, closed, seed, dates),
+    let n = work.len();
+    let what = moves::last_move(q);
+    if n == 1 {
+        return move_last(paid, what, q.mask, closed);
+    }
+    moving::pay_between(work, paid, n - 1, n, what, q.mask, closed)
+}
+
+// The paid dates of what was generated. Those that are known stay.
+fn pay_dates(
+    q: Request,
+    closed: &[u32],
+    seed: u32,
+    known: Paid,
+    work: &[u32],
+    paid: &mut [u32],
+) -> Done
+    requires { ⌜ (1 ≤ length (now work)) × (length (now work) ≡ length (now paid)) ⌝ }
+    ensures { λ r. ⌜ (closedOk (now (closed .entry)) ≡ true → PaidAlready (adjusted (q .mask) (now (closed .entry)) (q .convention)) (known .from) (known .to) (now (work .entry)) (now (paid .entry)) → done r (now (paid .exit)) ≡ adjustments q (now (closed .entry)) seed (now (work .entry))) ⌝ }
+{
+    let among = narrow(known, work.len());
+    let first = moving::pay_between(work, paid, 0, 1, moves::first_move(q), q.mask, closed);
+    if let Done::Refused(n) = first {
+        return Done::Refused(n);
+    }
+    let last = pay_last(q, closed, work, paid);
+    match last {
+        Done::Whole => pay_middle(q, closed, seed, among, work, paid),
         Done::Refused(n) => Done::Refused(n),
     }
 }
 
-fn adjust_dates(q: Request, closed: &[u32], seed: u32, dates: &mut [u32]) -> Done
-    requires { ⌜ 1 ≤ length (now dates) ⌝ }
-    ensures { λ r. ⌜ (closedOk (now (closed .entry)) ≡ true → done r (now (dates .exit)) ≡ fewAdjustments q (now (closed .entry)) seed (now (dates .entry))) ⌝ }
+// The two dates of each entry: third Wednesdays in the list of the dates, the paid dates beside them.
+pub(crate) fn pair_dates(
+    q: Request,
+    closed: &[u32],
+    seed: u32,
+    known: Paid,
+    work: &mut [u32],
+    paid: &mut [u32],
+) -> Done
+    requires { ⌜ (1 ≤ length (now work)) × (length (now work) ≡ length (now paid)) ⌝ }
+    ensures { λ r. ⌜ (closedOk (now (closed .entry)) ≡ true → PaidAlready (adjusted (q .mask) (now (closed .entry)) (q .convention)) (known .from) (known .to) (now (work .entry)) (now (paid .entry)) → paired r (now (work .exit)) (now (paid .exit)) ≡ pairsOf q (now (closed .entry)) seed (now (work .entry))) ⌝ }
 {
-    let moved = move_first(dates, moves::first_move(q), q.mask, closed);
+    let rule = rules::rule_in_force(q);
+    let moved = third_wednesdays(rule, q.mask, closed, work);
     match moved {
-        Done::Whole => adjust_last(q, closed, seed, dates),
-        Done::Refused(n) => Done::Refused(n),
-    }
-}
-
-// All that moves dates: third Wednesdays, then the adjustments.
-pub(crate) fn move_dates(q: Request, closed: &[u32], seed: u32, dates: &mut [u32]) -> Done
-    requires { ⌜ 1 ≤ length (now dates) ⌝ }
-    ensures { λ r. ⌜ (closedOk (now (closed .entry)) ≡ true → done r (now (dates .exit)) ≡ movedAll q (now (closed .entry)) seed (now (dates .entry))) ⌝ }
-{
-    let moved = third_wednesdays(rules::rule_in_force(q), q.mask, closed, dates);
-    match moved {
-        Done::Whole => adjust_dates(q, closed, seed, dates),
+        Done::Whole => pay_dates(q, closed, seed, still_paid(rule, known), work, paid),
         Done::Refused(n) => Done::Refused(n),
     }
 }

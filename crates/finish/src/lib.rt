@@ -4,9 +4,11 @@ ghost use mathlib.Core.Bool.{true};
 ghost use Prim.Native.Nat.{_≤_, _<_};
 ghost use lib.ListN.{length};
 ghost use Rattle.calendar.specs.Open.{closedOk};
-ghost use Rattle.steps.specs.Build.{Written};
-ghost use Rattle.finish.specs.Finishing.{acceptedBuilt, scheduled, Lent, lentRefusal, completed};
-ghost use Rattle.finish.specs.Ends.{partOf};
+ghost use Rattle.calendar.specs.Adjust.{adjusted};
+ghost use Rattle.steps.specs.Entries.{Written};
+ghost use Rattle.finish.specs.Finishing.{acceptedBuilt, Lent, lentRefusal, completed};
+ghost use Rattle.finish.specs.Ends.{CopiedOut};
+ghost use Rattle.finish.specs.Paying.{PaidAlready};
 use crate::merges::Left;
 use crate::moving::Done;
 use steps::Built;
@@ -14,14 +16,27 @@ use steps::Request;
 use steps::refused;
 use steps::rules;
 
-// Dates moved in place.
+// Dates moved in place, or into another list.
 mod moving;
-// Third Wednesdays, and the adjustments of the first, the last and the middle dates.
+// Third Wednesdays, and the paid dates of the first, the last and the middle dates.
 mod adjusting;
 // The merges at the end and at the front.
 mod merges;
 // Copying out.
 mod copies;
+
+// Which of the dates are paid already: those from a place up to another.
+pub struct Paid {
+    pub from: usize,
+    pub to: usize,
+}
+
+// What is known of the generated dates: the seed, the tries, and which of them are paid.
+pub struct Made {
+    pub seed: u32,
+    pub tries: u32,
+    pub paid: Paid,
+}
 
 fn accepted(q: Request, count: u32, tries: u32) -> Built
     ensures { λ r. ⌜ r ≡ acceptedBuilt q count tries ⌝ }
@@ -35,33 +50,45 @@ fn accepted(q: Request, count: u32, tries: u32) -> Built
     }
 }
 
-// The schedule written out: the dates from a place up to another, and the flags between them.
+// The schedule written out: the paid dates from a place up to another, the flags between them, and the dates as generated.
 fn copy_out(
-    q: Request,
-    tries: u32,
     from: usize,
     to: usize,
     work: &[u32],
+    paid: &[u32],
     marks: &[u8],
     dates: &mut [u32],
     flags: &mut [u8],
-) -> Built
-    requires { ⌜ Lent (now work) (now marks) (now dates) (now flags) ⌝ }
+    unadjusted: &mut [u32],
+)
+    requires { ⌜ Lent (now work) (now paid) (now marks) (now dates) (now flags) (now unadjusted) ⌝ }
     requires { ⌜ (from < to) × (to ≤ length (now work)) ⌝ }
-    ensures { λ r. ⌜ Written q (scheduled tries (partOf from to (now (work .entry)) (now (marks .entry)))) r (now (dates .entry)) (now (flags .entry)) (now (dates .exit)) (now (flags .exit)) ⌝ }
+    ensures { λ _. ⌜ CopiedOut from to (now (work .entry)) (now (paid .entry)) (now (marks .entry)) (now (dates .entry)) (now (flags .entry)) (now (unadjusted .entry)) (now (dates .exit)) (now (flags .exit)) (now (unadjusted .exit)) ⌝ }
 {
     let last = to - 1;
-    copies::copy_dates(&work[from..to], dates);
+    copies::copy_dates(&paid[from..to], dates);
     copies::copy_flags(&marks[from..last], flags);
-    let count = to - from;
-    accepted(q, count as u32, tries)
+    copies::copy_dates(&work[from..to], unadjusted);
 }
 
 // 1 where the lists do not belong together, 14 where the dates do not fit, else 0.
-fn lent_refusal(work: usize, marks: usize, dates: usize, flags: usize) -> u8
-    ensures { λ r. ⌜ r ≡ lentRefusal work marks dates flags ⌝ }
+fn lent_refusal(
+    work: usize,
+    paid: usize,
+    marks: usize,
+    dates: usize,
+    flags: usize,
+    unadjusted: usize,
+) -> u8
+    ensures { λ r. ⌜ r ≡ lentRefusal work paid marks dates flags unadjusted ⌝ }
 {
     if dates != flags {
+        return refusal::UNEVEN;
+    }
+    if dates != unadjusted {
+        return refusal::UNEVEN;
+    }
+    if work != paid {
         return refusal::UNEVEN;
     }
     if work == 0 {
@@ -79,30 +106,45 @@ fn lent_refusal(work: usize, marks: usize, dates: usize, flags: usize) -> u8
     0
 }
 
-// From the generated dates, `work`, and the flags between them, `marks`, to what is answered and written out.
+// From the generated dates, `work`, those of them that are paid, and the flags between them, `marks`, to what is answered and written
+// out. It has nine parameters: the lists go together three by three, and no struct can hold a list that is lent.
 pub fn complete(
     q: Request,
     closed: &[u32],
-    seed: u32,
-    tries: u32,
+    made: Made,
     work: &mut [u32],
+    paid: &mut [u32],
     marks: &mut [u8],
     dates: &mut [u32],
     flags: &mut [u8],
+    unadjusted: &mut [u32],
 ) -> Built
-    ensures { λ r. ⌜ (closedOk (now (closed .entry)) ≡ true → Written q (completed q (now (closed .entry)) seed tries (now (work .entry)) (now (marks .entry)) (length (now (dates .entry))) (length (now (flags .entry)))) r (now (dates .entry)) (now (flags .entry)) (now (dates .exit)) (now (flags .exit))) ⌝ }
+    ensures { λ r. ⌜ (closedOk (now (closed .entry)) ≡ true → PaidAlready (adjusted (q .mask) (now (closed .entry)) (q .convention)) (made .paid .from) (made .paid .to) (now (work .entry)) (now (paid .entry)) → Written q (completed q (now (closed .entry)) (made .seed) (made .tries) (now (work .entry)) (now (marks .entry)) (length (now (paid .entry))) (length (now (dates .entry))) (length (now (flags .entry))) (length (now (unadjusted .entry)))) r (now (dates .entry)) (now (flags .entry)) (now (unadjusted .entry)) (now (dates .exit)) (now (flags .exit)) (now (unadjusted .exit))) ⌝ }
 {
-    let number = lent_refusal(work.len(), marks.len(), dates.len(), flags.len());
+    let number = lent_refusal(
+        work.len(),
+        paid.len(),
+        marks.len(),
+        dates.len(),
+        flags.len(),
+        unadjusted.len(),
+    );
     if number != 0 {
         return refused(number);
     }
-    let moved = adjusting::move_dates(q, closed, seed, work);
+    let known = made.paid;
+    let moved = adjusting::pair_dates(q, closed, made.seed, known, work, paid);
     if let Done::Refused(n) = moved {
         return refused(n);
     }
-    let left = merges::merge(work, marks);
+    let left = merges::merge(paid, marks);
     match left {
         Left::Refused(n) => refused(n),
-        Left::Part { from, to } => copy_out(q, tries, from, to, work, marks, dates, flags),
+        Left::Part { from, to } => {
+            merges::follow(work, from, to);
+            copy_out(from, to, work, paid, marks, dates, flags, unadjusted);
+            let count = to - from;
+            accepted(q, count as u32, made.tries)
+        }
     }
 }

@@ -1,8 +1,9 @@
-// The two merges that end a build, on the part of the working lists that holds the schedule.
+// The two merges that end a build, on the part of the working lists that holds the schedule, and the unadjusted dates that follow them.
 ghost use mathlib.Core.Path.{_≡_};
-ghost use Prim.Native.Nat.{_+_};
+ghost use Prim.Native.Nat.{_+_, _≤_, _<_};
 ghost use lib.ListN.{length};
 ghost use Rattle.finish.specs.Ends.{EndMerged, FrontMerged, Merges};
+ghost use Rattle.finish.specs.Following.{followEnd, followFront};
 use steps::flags::same_flag;
 
 // Where the list starts after the merge at the front.
@@ -72,4 +73,33 @@ pub(crate) fn merge(dates: &mut [u32], flags: &mut [u8]) -> Left
         Start::Refused(n) => Left::Refused(n),
         Start::At(from) => Left::Part { from, to },
     }
+}
+
+// Where the merge at the end took a date away, what stands beside the last date takes its place.
+fn follow_end(work: &mut [u32], to: usize)
+    requires { ⌜ 1 ≤ to ⌝ }
+    ensures { λ _. ⌜ now (work .exit) ≡ followEnd to (now (work .entry)) ⌝ }
+{
+    if to < work.len() {
+        work[to - 1] = work[to];
+    }
+}
+
+// The same with the first date.
+fn follow_front(work: &mut [u32], from: usize)
+    requires { ⌜ from < length (now work) ⌝ }
+    ensures { λ _. ⌜ now (work .exit) ≡ followFront from (now (work .entry)) ⌝ }
+{
+    if from == 1 {
+        work[1] = work[0];
+    }
+}
+
+// The unadjusted dates after both merges, which left the dates from a place up to another.
+pub(crate) fn follow(work: &mut [u32], from: usize, to: usize)
+    requires { ⌜ (from < to) × (to ≤ length (now work)) ⌝ }
+    ensures { λ _. ⌜ now (work .exit) ≡ followFront from (followEnd to (now (work .entry))) ⌝ }
+{
+    follow_end(work, to);
+    follow_front(work, from);
 }

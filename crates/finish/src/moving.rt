@@ -1,4 +1,4 @@
-// Dates moved in place, one after the other. The first that can't be moved refuses.
+// Dates moved one after the other, in place or into another list. The first that can't be moved refuses.
 ghost use mathlib.Core.Path.{_≡_};
 ghost use mathlib.Core.Bool.{true};
 ghost use Prim.Native.Nat.{_≤_};
@@ -6,6 +6,7 @@ ghost use lib.ListN.{length};
 ghost use Rattle.calendar.specs.Open.{closedOk};
 ghost use Rattle.steps.specs.Finish.{moved, each, between};
 ghost use Rattle.finish.specs.Moving.{done};
+ghost use Rattle.finish.specs.Paying.{payBetween};
 use date::Dated;
 use steps::Move;
 use steps::moves;
@@ -47,4 +48,41 @@ pub(crate) fn move_between(
     ensures { λ r. ⌜ (closedOk (now (closed .entry)) ≡ true → done r (now (s .exit)) ≡ between (moved mask (now (closed .entry)) what) a b (now (s .entry))) ⌝ }
 {
     move_all(&mut s[a..b], what, mask, closed)
+}
+
+// The dates of one list moved into another.
+fn pay_all(work: &[u32], paid: &mut [u32], what: Move, mask: u8, closed: &[u32]) -> Done
+    requires { ⌜ length (now work) ≡ length (now paid) ⌝ }
+    ensures { λ r. ⌜ (closedOk (now (closed .entry)) ≡ true → done r (now (paid .exit)) ≡ each (moved mask (now (closed .entry)) what) (now (work .entry))) ⌝ }
+{
+    let mut i = 0;
+    while i < work.len() {
+        let next = moves::moved(work[i], what, mask, closed);
+        match next {
+            Dated::Refused(n) => {
+                return Done::Refused(n);
+            }
+            Dated::Day(d) => {
+                paid[i] = d.day;
+                i += 1;
+            }
+        }
+    }
+    Done::Whole
+}
+
+// The dates from place a up to place b moved into the same places of another list.
+pub(crate) fn pay_between(
+    work: &[u32],
+    paid: &mut [u32],
+    a: usize,
+    b: usize,
+    what: Move,
+    mask: u8,
+    closed: &[u32],
+) -> Done
+    requires { ⌜ (a ≤ b) × (b ≤ length (now work)) × (length (now work) ≡ length (now paid)) ⌝ }
+    ensures { λ r. ⌜ (closedOk (now (closed .entry)) ≡ true → done r (now (paid .exit)) ≡ payBetween (moved mask (now (closed .entry)) what) a b (now (work .entry)) (now (paid .entry))) ⌝ }
+{
+    pay_all(&work[a..b], &mut paid[a..b], what, mask, closed)
 }

@@ -21,7 +21,7 @@ use Rattle.working.specs.Part.{Work, Placed, Begun, held, lastPut, lastDay, fil
 use Rattle.working.specs.Dates.{dates}
 use Rattle.working.specs.Held.{newest-read}
 use Rattle.working.specs.declared.Generated.the-variants as generated-is
-use Rattle.working.specs.Making.{generated, piece, Generates}
+use Rattle.working.specs.Making.{generated, piece, LiesForth}
 
 -- ---- the last date
 module _ {C : Type 0} {view : C → Lists} {Keeps : C → Type 0} {r : Answer C} (q : Request) (room : ℕ) (l : Lists) where
@@ -62,10 +62,17 @@ tail-taken zero l h = let bad : ⊥ = omega arith in absurd bad
 tail-taken (suc n) [] h = let e : suc n - 1 ≡ n = omega arith in rw (e, none-taken n) refl
 tail-taken (suc n) (x ∷ xs) h = let e : suc n - 1 ≡ n = omega arith in rw e refl
 
-pub forth-made : {room n : ℕ} {w : Work} (tries seed : ℕ) → Placed room n w → Generates room (given (madeForth tries seed (held false n w))) (generated-is.Ready (record { from = 0; marked = 1; n = n; tries = tries; seed = seed })) w
+pub forth-made : {room n : ℕ} {w : Work} (tries seed start m : ℕ) → Placed room n w → Gives (piece w) (LiesForth room start m w) (given (madeForth tries seed (held false n w))) (generated (generated-is.Ready (record { from = 0; marked = 1; n = n; known = start; beyond = m; tries = tries; seed = seed })))
 unfolding generated piece held lastPut
-forth-made {n = n} {w = w} tries seed p =
+forth-made {n = n} {w = w} tries seed start m p =
     let t = p .part in
-    gives (record { from = 0; marked = 1; n = n; tries = tries; seed = seed })
+    gives (record { from = 0; marked = 1; n = n; known = start; beyond = m; tries = tries; seed = seed })
     (rw (reverse-reverse (take n (w .days)), reverse-reverse (take n (w .marks)), tail-taken n (w .marks) (p .some)) refl)
-    (record { some = omega (arith, p); fits = t .fits; dates-end = omega (arith, t); flags-end = omega (arith, t) })
+    (record {
+      lies = record { some = p .some; fits = t .fits; dates-end = omega (arith, t); flags-end = omega (arith, t) };
+      size = t .work-size;
+      most = omega (arith, t);
+      at = refl;
+      known-at = refl;
+      beyond-at = refl;
+    })

@@ -3,7 +3,7 @@ ghost use mathlib.Core.Bool.{false};
 ghost use Rattle.steps.specs.Generate.{putClosing, closing, shut, forwardEnd};
 ghost use Rattle.working.specs.Part.{working, Part, Begun, held, Fills};
 ghost use Rattle.working.specs.Turning.{Ahead};
-ghost use Rattle.working.specs.Making.{Makes};
+ghost use Rattle.working.specs.Making.{Ends, LiesForth};
 use calendar::search;
 use date::Dated;
 use steps::Request;
@@ -13,6 +13,7 @@ use working::Adjusting;
 use working::Filled;
 use working::Generated;
 use working::Piece;
+use working::Round;
 use working::Tip;
 use working::adds;
 use working::adds::Added;
@@ -90,12 +91,11 @@ pub(crate) fn forward_end(
     closed: &[u32],
     room: usize,
     tip: Tip,
-    tries: u32,
-    seed: u32,
+    round: Round,
     work: &mut [u32],
     marks: &mut [u8],
 ) -> Generated
-    ensures { λ r. ⌜ Makes (Ahead (q .mask) (now (closed .entry)) (q .convention) false room (working (now (work .entry)) (now (marks .entry))) tip) room (forwardEnd q (now (closed .entry)) room tries seed (held false (tip .n) (working (now (work .entry)) (now (marks .entry))))) r (working (now (work .exit)) (now (marks .exit))) ⌝ }
+    ensures { λ r. ⌜ Ends (Ahead (q .mask) (now (closed .entry)) (q .convention) false room (working (now (work .entry)) (now (marks .entry))) tip) (LiesForth room (round .start) (tip .n) (working (now (work .exit)) (now (marks .exit)))) (forwardEnd q (now (closed .entry)) room (round .tries) (round .seed) (held false (tip .n) (working (now (work .entry)) (now (marks .entry))))) r (working (now (work .exit)) (now (marks .exit))) ⌝ }
 {
     let n = match shut(q, closed, room, tip, work, marks) {
         Filled::Refused(k) => return Generated::Refused(k),
@@ -105,7 +105,9 @@ pub(crate) fn forward_end(
         from: 0,
         marked: 1,
         n,
-        tries,
-        seed,
+        known: round.start,
+        beyond: tip.n,
+        tries: round.tries,
+        seed: round.seed,
     })
 }

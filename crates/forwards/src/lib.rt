@@ -1,4 +1,7 @@
 // Forward builds, and those on twentieths and third Wednesdays: from the effective date on to termination.
+ghost use mathlib.Core.Path.{_≡_};
+ghost use lib.ListN.{length};
+ghost use Rattle.calendar.specs.Adjust.{adjusted};
 ghost use Rattle.steps.specs.Generate.{forwardFrom, forward};
 ghost use Rattle.working.specs.Part.{working, Begun};
 ghost use Rattle.opening.specs.Opening.{opening};
@@ -9,6 +12,7 @@ use steps::seeds;
 use working::Adjusting;
 use working::Course;
 use working::Generated;
+use working::Round;
 use working::candidates;
 use working::walks;
 use working::walks::Walked;
@@ -24,15 +28,16 @@ fn forward_from(
     n: usize,
     day: u32,
     work: &mut [u32],
+    paid: &mut [u32],
     marks: &mut [u8],
 ) -> Generated
-    ensures { λ r. ⌜ Makes (Checked q (now (closed .entry)) × Begun (now (closed .entry)) room n (working (now (work .entry)) (now (marks .entry)))) room (forwardFrom q (now (closed .entry)) room (opening (working (now (work .entry)) (now (marks .entry))) (n, day))) r (working (now (work .exit)) (now (marks .exit))) ⌝ }
+    ensures { λ r. ⌜ Makes (Checked q (now (closed .entry)) × (Begun (now (closed .entry)) room n (working (now (work .entry)) (now (marks .entry))) × (length (now (paid .entry)) ≡ 4096))) (adjusted (q .mask) (now (closed .entry)) (q .convention)) room (forwardFrom q (now (closed .entry)) room (opening (working (now (work .entry)) (now (marks .entry))) (n, day))) r (working (now (work .exit)) (now (marks .exit))) (now (paid .exit)) ⌝ }
 {
     let tenor = q.tenor;
     let convention = q.convention;
     let pace = candidates::pace_of(tenor);
     let course = Course {
-        settled: false,
+        back: false,
         pace,
         seed: seeds::seed_of(q.monthend, day),
         exit: seeds::anchor_or(q.penultimate.day, q.termination.day),
@@ -41,11 +46,16 @@ fn forward_from(
         convention,
         mask: q.mask,
     };
-    let walked = walks::walk(course, false, room, adjusting, closed, n, work, marks);
+    let walked = walks::walk(course, room, adjusting, closed, n, work, paid, marks);
     match walked {
         Walked::Refused(k) => Generated::Refused(k),
         Walked::Ready { tip, tries } => {
-            closing::forward_end(q, closed, room, tip, tries, day, work, marks)
+            let round = Round {
+                start: n,
+                tries,
+                seed: day,
+            };
+            closing::forward_end(q, closed, room, tip, round, work, marks)
         }
     }
 }
@@ -56,13 +66,14 @@ pub fn forward(
     closed: &[u32],
     room: usize,
     work: &mut [u32],
+    paid: &mut [u32],
     marks: &mut [u8],
 ) -> Generated
-    ensures { λ r. ⌜ Makes (Blank q (now (closed .entry)) room (working (now (work .entry)) (now (marks .entry)))) room (forward q (now (closed .entry)) room) r (working (now (work .exit)) (now (marks .exit))) ⌝ }
+    ensures { λ r. ⌜ Makes (Blank q (now (closed .entry)) room (working (now (work .entry)) (now (marks .entry))) (now (paid .entry))) (adjusted (q .mask) (now (closed .entry)) (q .convention)) room (forward q (now (closed .entry)) room) r (working (now (work .exit)) (now (marks .exit))) (now (paid .exit)) ⌝ }
 {
     let opened = opening::open_forward(q, closed, room, work, marks);
     match opened {
         Opening::Refused(k) => Generated::Refused(k),
-        Opening::Ready { n, seed } => forward_from(q, closed, room, n, seed, work, marks),
+        Opening::Ready { n, seed } => forward_from(q, closed, room, n, seed, work, paid, marks),
     }
 }

@@ -4,5 +4,6 @@ pub mod Late
 pub mod Grid
 pub mod NoLimit
 pub mod Refusals
+pub mod Uneven
 pub mod RustStep
 pub mod Closed

@@ -17,7 +17,8 @@ use Rattle.steps.specs.declared.Rule.{Rule}
 use Rattle.steps.specs.declared.Rule.the-variants.{Backward, Forward}
 use Rattle.steps.specs.declared.Request.{Request}
 use Rattle.steps.specs.declared.Built.{Built}
-use Rattle.steps.specs.Build.{Schedule, Written, buildOf}
+use Rattle.steps.specs.Build.{Schedule, buildOf}
+use Rattle.steps.specs.Entries.{entriesOf, Written}
 use Rattle.plain.specs.Demand.{Passes, LeftAlone}
 use Rattle.plain.specs.Forward.{under, tenorsAfter}
 
@@ -96,26 +97,28 @@ pub record SameButRule (r r′ : Built) : Type 0 where
 
 abbrev pub AgreeInMemory : (Request → Type 0) → Type 0
 AgreeInMemory Day =
-    (q : Request) (k : ℕ) → Whole q k → Day q → (closed dates flags : List ℕ) (r r′ : Built) (dates′ dates″ flags′ flags″ : List ℕ)
-    → Written (under Forward q) (buildOf (under Forward q) closed (length dates) (length flags)) r dates flags dates′ flags′
-    → Written (under Backward q) (buildOf (under Backward q) closed (length dates) (length flags)) r′ dates flags dates″ flags″
-    → SameButRule r r′ × (dates′ ≡ dates″) × (flags′ ≡ flags″)
+    (q : Request) (k : ℕ) → Whole q k → Day q → (closed dates flags unadjusted : List ℕ) (r r′ : Built) (dates′ dates″ flags′ flags″ unadjusted′ unadjusted″ : List ℕ)
+    → Written (under Forward q) (entriesOf (under Forward q) closed (length dates) (length flags) (length unadjusted)) r dates flags unadjusted dates′ flags′ unadjusted′
+    → Written (under Backward q) (entriesOf (under Backward q) closed (length dates) (length flags) (length unadjusted)) r′ dates flags unadjusted dates″ flags″ unadjusted″
+    → SameButRule r r′ × (dates′ ≡ dates″) × (flags′ ≡ flags″) × (unadjusted′ ≡ unadjusted″)
 
--- the dates stand at the start of one list, their flags at the start of the other; later places hold what they held
-pub record EvenlyWritten (q : Request) (k : ℕ) (rule : Rule) (r : Built) (dates flags dates′ flags′ : List ℕ) : Type 0 where
+-- the dates stand at the start of two lists, their flags at the start of the other; later places hold what they held
+pub record EvenlyWritten (q : Request) (k : ℕ) (rule : Rule) (r : Built) (dates flags unadjusted dates′ flags′ unadjusted′ : List ℕ) : Type 0 where
   pub answer : r ≡ record { number = 0; count = k + 1; tries = k + 1; rule = rule; tenor = q .tenor }
   pub its-dates : List ℕ
   pub even : EvenDates q k its-dates
   pub dates-then : dates′ ≡ its-dates ++ drop (k + 1) dates
   pub flags-then : flags′ ≡ replicate k 1 ++ drop k flags
+  pub unadjusted-then : unadjusted′ ≡ its-dates ++ drop (k + 1) unadjusted
 
-pub record EvenlyInMemory (q : Request) (k : ℕ) (rule : Rule) (r : Built) (dates flags dates′ flags′ : List ℕ) : Type 0 where
-  pub left-alone : TooMany (length dates) (k + 1) → LeftAlone r dates flags dates′ flags′
-  pub written-else : (TooMany (length dates) (k + 1) → ⊥) → EvenlyWritten q k rule r dates flags dates′ flags′
+pub record EvenlyInMemory (q : Request) (k : ℕ) (rule : Rule) (r : Built) (dates flags unadjusted dates′ flags′ unadjusted′ : List ℕ) : Type 0 where
+  pub left-alone : TooMany (length dates) (k + 1) → LeftAlone r dates flags unadjusted dates′ flags′ unadjusted′
+  pub written-else : (TooMany (length dates) (k + 1) → ⊥) → EvenlyWritten q k rule r dates flags unadjusted dates′ flags′ unadjusted′
 
 abbrev pub BothEvenlyInMemory : (Request → Type 0) → Type 0
 BothEvenlyInMemory Day =
-    (q : Request) (k : ℕ) → Whole q k → Day q → (closed dates flags dates′ flags′ : List ℕ) (r : Built) → Passes q closed (length dates) (length flags)
+    (q : Request) (k : ℕ) → Whole q k → Day q → (closed dates flags unadjusted dates′ flags′ unadjusted′ : List ℕ) (r : Built)
+    → Passes q closed (length dates) (length flags) → length dates ≡ length unadjusted
     → (rule : Rule) → Direction rule
-    → Written (under rule q) (buildOf (under rule q) closed (length dates) (length flags)) r dates flags dates′ flags′
-    → EvenlyInMemory q k rule r dates flags dates′ flags′
+    → Written (under rule q) (entriesOf (under rule q) closed (length dates) (length flags) (length unadjusted)) r dates flags unadjusted dates′ flags′ unadjusted′
+    → EvenlyInMemory q k rule r dates flags unadjusted dates′ flags′ unadjusted′

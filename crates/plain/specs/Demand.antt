@@ -19,7 +19,8 @@ use Rattle.steps.specs.declared.Rule.the-variants.{Backward}
 use Rattle.steps.specs.declared.Request.{Request}
 use Rattle.steps.specs.declared.Built.{Built}
 use Rattle.steps.specs.Table.{firstRow, inputRows}
-use Rattle.steps.specs.Build.{Schedule, Written, buildOf}
+use Rattle.steps.specs.Build.{Schedule, buildOf}
+use Rattle.steps.specs.Entries.{entriesOf, Written}
 use Rattle.plain.specs.Listed.{ListsAll}
 
 -- ---- "Take a backward build .. with positive tenor, no anchors, both conventions Unadjusted, end of month off, effective before termination."
@@ -143,32 +144,36 @@ ChecksAre =
     (q : Request) (closed : List ℕ) (dates flags : ℕ) → Plain q
     → (firstRow (inputRows q closed dates flags) ≡ 0) ↔ Passes q closed dates flags
 
--- ---- the same in memory: what a call that keeps the promise of `build` answers, and what the lent lists then hold (shown in Memory)
-pub record WrittenOut (q : Request) (ds : List ℕ) (m : ℕ) (r : Built) (dates flags dates′ flags′ : List ℕ) : Type 0 where
+-- ---- the same in memory: what a call that keeps the promise of `build` answers, and what the lent lists then hold (shown in Memory). The list
+-- of unadjusted dates holds the same dates as the list of paid ones
+pub record WrittenOut (q : Request) (ds : List ℕ) (m : ℕ) (r : Built) (dates flags unadjusted dates′ flags′ unadjusted′ : List ℕ) : Type 0 where
   pub number : r .number ≡ 0
   pub count : r .count ≡ length ds
   pub tries : r .tries ≡ 1 + m / tenorCount q
   pub rule : r .rule ≡ Backward
   pub tenor : r .tenor ≡ q .tenor
-  -- the dates stand at the start of one list, their flags at the start of the other; later places hold what they held
+  -- the dates stand at the start of two lists, their flags at the start of the other; later places hold what they held
   pub dates-then : dates′ ≡ ds ++ drop (length ds) dates
   pub its-flags : List ℕ
   pub flagged : Flagged q ds its-flags
   pub flags-then : flags′ ≡ its-flags ++ drop (length its-flags) flags
+  pub unadjusted-then : unadjusted′ ≡ ds ++ drop (length ds) unadjusted
 
-pub record LeftAlone (r : Built) (dates flags dates′ flags′ : List ℕ) : Type 0 where
+pub record LeftAlone (r : Built) (dates flags unadjusted dates′ flags′ unadjusted′ : List ℕ) : Type 0 where
   pub number : r .number ≡ ROOM
   pub count : r .count ≡ 0
   pub tries : r .tries ≡ 0
   pub dates-same : dates′ ≡ dates
   pub flags-same : flags′ ≡ flags
+  pub unadjusted-same : unadjusted′ ≡ unadjusted
 
-pub record InMemory (q : Request) (ds : List ℕ) (m : ℕ) (r : Built) (dates flags dates′ flags′ : List ℕ) : Type 0 where
-  pub left-alone : TooLong (length dates) ds → LeftAlone r dates flags dates′ flags′
-  pub written-else : (TooLong (length dates) ds → ⊥) → WrittenOut q ds m r dates flags dates′ flags′
+pub record InMemory (q : Request) (ds : List ℕ) (m : ℕ) (r : Built) (dates flags unadjusted dates′ flags′ unadjusted′ : List ℕ) : Type 0 where
+  pub left-alone : TooLong (length dates) ds → LeftAlone r dates flags unadjusted dates′ flags′ unadjusted′
+  pub written-else : (TooLong (length dates) ds → ⊥) → WrittenOut q ds m r dates flags unadjusted dates′ flags′ unadjusted′
 
 abbrev pub Demand3InMemory : Type 0
 Demand3InMemory =
-    (q : Request) (closed dates flags dates′ flags′ : List ℕ) (r : Built) → Plain q → Passes q closed (length dates) (length flags)
-    → Written q (buildOf q closed (length dates) (length flags)) r dates flags dates′ flags′
-    → (ds : List ℕ) → Owed q ds → (m : ℕ) → Most q m → InMemory q ds m r dates flags dates′ flags′
+    (q : Request) (closed dates flags unadjusted dates′ flags′ unadjusted′ : List ℕ) (r : Built)
+    → Plain q → Passes q closed (length dates) (length flags) → length dates ≡ length unadjusted
+    → Written q (entriesOf q closed (length dates) (length flags) (length unadjusted)) r dates flags unadjusted dates′ flags′ unadjusted′
+    → (ds : List ℕ) → Owed q ds → (m : ℕ) → Most q m → InMemory q ds m r dates flags unadjusted dates′ flags′ unadjusted′

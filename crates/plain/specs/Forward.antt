@@ -15,7 +15,8 @@ use Rattle.steps.specs.declared.Rule.{Rule}
 use Rattle.steps.specs.declared.Rule.the-variants.{Forward}
 use Rattle.steps.specs.declared.Request.{Request}
 use Rattle.steps.specs.declared.Built.{Built}
-use Rattle.steps.specs.Build.{Schedule, Written, buildOf}
+use Rattle.steps.specs.Build.{Schedule, buildOf}
+use Rattle.steps.specs.Entries.{entriesOf, Written}
 use Rattle.steps.specs.Table.{firstRow, inputRows}
 use Rattle.plain.specs.Listed.{ListsAll}
 use Rattle.plain.specs.Demand.{Passes, tenorLength, countedIn, tenorCount, TooLong, LeftAlone}
@@ -137,20 +138,22 @@ ChecksOn =
     → (firstRow (inputRows q closed dates flags) ≡ 0) ↔ Passes q closed dates flags
 
 -- ---- the same in memory (shown in Memory)
-pub record WrittenOn (q : Request) (ds : List ℕ) (m : ℕ) (r : Built) (dates flags dates′ flags′ : List ℕ) : Type 0 where
+pub record WrittenOn (q : Request) (ds : List ℕ) (m : ℕ) (r : Built) (dates flags unadjusted dates′ flags′ unadjusted′ : List ℕ) : Type 0 where
   pub answer : r ≡ record { number = 0; count = length ds; tries = 1 + m / tenorCount q; rule = Forward; tenor = q .tenor }
-  -- the dates stand at the start of one list, their flags at the start of the other; later places hold what they held
+  -- the dates stand at the start of two lists, their flags at the start of the other; later places hold what they held
   pub dates-then : dates′ ≡ ds ++ drop (length ds) dates
   pub its-flags : List ℕ
   pub flagged : FlaggedOn q ds its-flags
   pub flags-then : flags′ ≡ its-flags ++ drop (length its-flags) flags
+  pub unadjusted-then : unadjusted′ ≡ ds ++ drop (length ds) unadjusted
 
-pub record InMemoryOn (q : Request) (ds : List ℕ) (m : ℕ) (r : Built) (dates flags dates′ flags′ : List ℕ) : Type 0 where
-  pub left-alone : TooLong (length dates) ds → LeftAlone r dates flags dates′ flags′
-  pub written-else : (TooLong (length dates) ds → ⊥) → WrittenOn q ds m r dates flags dates′ flags′
+pub record InMemoryOn (q : Request) (ds : List ℕ) (m : ℕ) (r : Built) (dates flags unadjusted dates′ flags′ unadjusted′ : List ℕ) : Type 0 where
+  pub left-alone : TooLong (length dates) ds → LeftAlone r dates flags unadjusted dates′ flags′ unadjusted′
+  pub written-else : (TooLong (length dates) ds → ⊥) → WrittenOn q ds m r dates flags unadjusted dates′ flags′ unadjusted′
 
 abbrev pub DemandOnInMemory : Type 0
 DemandOnInMemory =
-    (q : Request) (closed dates flags dates′ flags′ : List ℕ) (r : Built) → PlainForward q → Passes q closed (length dates) (length flags)
-    → Written q (buildOf q closed (length dates) (length flags)) r dates flags dates′ flags′
-    → (ds : List ℕ) → OwedOn q ds → (m : ℕ) → MostOn q m → InMemoryOn q ds m r dates flags dates′ flags′
+    (q : Request) (closed dates flags unadjusted dates′ flags′ unadjusted′ : List ℕ) (r : Built)
+    → PlainForward q → Passes q closed (length dates) (length flags) → length dates ≡ length unadjusted
+    → Written q (entriesOf q closed (length dates) (length flags) (length unadjusted)) r dates flags unadjusted dates′ flags′ unadjusted′
+    → (ds : List ℕ) → OwedOn q ds → (m : ℕ) → MostOn q m → InMemoryOn q ds m r dates flags unadjusted dates′ flags′ unadjusted′

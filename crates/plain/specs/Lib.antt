@@ -9,4 +9,5 @@ pub mod AgreeExample
 pub mod Example
 pub mod Sums
 pub mod Points
+pub mod Pairs
 pub mod ShortEnds

@@ -9,10 +9,12 @@ use native.Mathlib.Omega.{arith}
 use lib.ListN.{length, take, drop, set, getD, length-set, length-append}
 use lib.Seq.{take-suc, take-suc-set, take-length, drop-set-lt, drop-drop}
 use borrow.Author.Needs.{needs}
+use borrow.Author.Tests.{eq-eqb, ne-eqb}
 use Rattle.date.specs.declared.Fields.{Fields}
 use Rattle.date.specs.Civil.{fieldsOf}
-use Rattle.printing.specs.Text.{digit, twoDigits, dateText, firstLine, laterLine, SPACE, HYPHEN, LINE}
-use Rattle.printing.specs.Put.{Put}
+use Rattle.printing.specs.Text.{digit, twoDigits, dateText, bracketed, firstLine, laterLine, SPACE, HYPHEN, LEFT, RIGHT, LINE}
+use Rattle.printing.specs.Put.{Put, differs}
+use Rattle.printing.specs.Laws.Lengths.{bracketed-length, first-length, later-length}
 
 pub put-none : (at : ℕ) (out : List ℕ) → Put [] at out at out
 put-none at out = record { ends = omega arith; before = sym (append-nil _); behind = refl; size = refl }
@@ -74,16 +76,38 @@ unfolding dateText
 date-put day f e p₆ p₅ p₄ p₃ p₂ p₁ =
     rw (sym e) (put-then (put-then (put-then (put-then (put-then p₁ p₂) p₃) p₄) p₅) p₆)
 
-pub first-put : (day : ℕ) {at m end : ℕ} {old mid new : List ℕ} → Put (LINE ∷ []) m mid end new → Put (dateText day) at old m mid → Put (firstLine day) at old end new
-unfolding firstLine
-first-put day q p = put-then p q
-
-pub later-put : (day letter : ℕ) {at m end : ℕ} {old mid new : List ℕ} → Put (SPACE ∷ letter ∷ LINE ∷ []) m mid end new → Put (dateText day) at old m mid → Put (laterLine day letter) at old end new
-unfolding laterLine
-later-put day letter q p = put-then p q
-
 pub date-ends : (day : ℕ) {at end : ℕ} {old new : List ℕ} → Put (dateText day) at old end new → end ≡ at + 10
 unfolding dateText
 date-ends day p = p .ends
 
-pub ruleset chains = (two-put, date-put, first-put, later-put, needs)
+-- ---- brackets
+module _ (paid unadjusted : ℕ) where
+  pub bracketed-none : (at : ℕ) (out : List ℕ) → paid ≡ unadjusted → Put (bracketed paid unadjusted) at out at out
+  unfolding bracketed
+  bracketed-none at out e = rw (eq-eqb paid unadjusted e) (put-none at out)
+
+  pub bracketed-size : (paid ≡ unadjusted → ⊥) → length (bracketed paid unadjusted) ≡ 13
+  unfolding differs
+  bracketed-size h = bracketed-length paid unadjusted ∙ rw (ne-eqb paid unadjusted h)
+
+  pub bracketed-put : {at m₁ m₂ end : ℕ} {old n₁ n₂ new : List ℕ} → (paid ≡ unadjusted → ⊥) → Put (SPACE ∷ LEFT ∷ []) at old m₁ n₁ → Put (dateText unadjusted) m₁ n₁ m₂ n₂ → Put (RIGHT ∷ []) m₂ n₂ end new → Put (bracketed paid unadjusted) at old end new
+  unfolding bracketed
+  bracketed-put h p₁ p₂ p₃ = rw (ne-eqb paid unadjusted h) (put-then (put-then p₁ p₂) p₃)
+
+  -- ---- lines
+  pub first-size : length (firstLine paid unadjusted) ≡ 11 + length (bracketed paid unadjusted)
+  first-size = omega (arith, first-length paid unadjusted, bracketed-length paid unadjusted)
+
+  pub first-put : {at m₁ m₂ end : ℕ} {old n₁ n₂ new : List ℕ} → Put (dateText paid) at old m₁ n₁ → Put (bracketed paid unadjusted) m₁ n₁ m₂ n₂ → Put (LINE ∷ []) m₂ n₂ end new → Put (firstLine paid unadjusted) at old end new
+  unfolding firstLine
+  first-put p₁ p₂ p₃ = put-then (put-then p₁ p₂) p₃
+
+  module _ (letter : ℕ) where
+    pub later-size : length (laterLine paid letter unadjusted) ≡ 13 + length (bracketed paid unadjusted)
+    later-size = omega (arith, later-length paid letter unadjusted, bracketed-length paid unadjusted)
+
+    pub later-put : {at m₁ m₂ m₃ end : ℕ} {old n₁ n₂ n₃ new : List ℕ} → Put (dateText paid) at old m₁ n₁ → Put (SPACE ∷ letter ∷ []) m₁ n₁ m₂ n₂ → Put (bracketed paid unadjusted) m₂ n₂ m₃ n₃ → Put (LINE ∷ []) m₃ n₃ end new → Put (laterLine paid letter unadjusted) at old end new
+    unfolding laterLine
+    later-put p₁ p₂ p₃ p₄ = put-then (put-then (put-then p₁ p₂) p₃) p₄
+
+pub ruleset chains = (two-put, date-put, needs)

@@ -1,4 +1,4 @@
--- Document 01, "Request bytes and the program": what is printed, as a list of bytes.
+-- Document 01, "Request bytes and the program", with request L7: what is printed, as a list of bytes.
 -- Assumes nothing.
 use Prim.Native.Nat.{ℕ, zero, suc, _+_, _/_, _%_}
 use mathlib.Core.Bool.{Bool, true, false}
@@ -11,12 +11,18 @@ abbrev pub pick : {A : Type 0} → Bool → A → A → A
 pick true a b = a
 pick false a b = b
 
--- ---- bytes: a space, a hyphen, a line feed, R and S, a digit
+-- ---- bytes: a space, a hyphen, the two brackets, a line feed, R and S, a digit
 abbrev pub SPACE : ℕ
 SPACE = 32
 
 abbrev pub HYPHEN : ℕ
 HYPHEN = 45
+
+abbrev pub LEFT : ℕ
+LEFT = 40
+
+abbrev pub RIGHT : ℕ
+RIGHT = 41
 
 abbrev pub LINE : ℕ
 LINE = 10
@@ -72,27 +78,33 @@ dateText n =
 unfoldable pub mark : ℕ → ℕ
 mark flag = pick (eqb flag 1) R S
 
-unfoldable pub firstLine : ℕ → List ℕ
-firstLine day = dateText day ++ (LINE ∷ [])
+-- where the two dates of an entry differ: a space, and the unadjusted one in brackets
+unfoldable pub bracketed : (paid unadjusted : ℕ) → List ℕ
+bracketed paid unadjusted = pick (eqb paid unadjusted) [] ((SPACE ∷ LEFT ∷ []) ++ dateText unadjusted ++ (RIGHT ∷ []))
 
-unfoldable pub laterLine : ℕ → ℕ → List ℕ
-laterLine day letter = dateText day ++ (SPACE ∷ letter ∷ LINE ∷ [])
+unfoldable pub firstLine : (paid unadjusted : ℕ) → List ℕ
+firstLine paid unadjusted = dateText paid ++ bracketed paid unadjusted ++ (LINE ∷ [])
 
--- a line for each date, with the flag of the period that ends there; a flag that is not there counts as 0
-unfoldable pub laterLines : List ℕ → List ℕ → List ℕ
-laterLines [] flags = []
-laterLines (day ∷ days) flags = laterLine day (mark (getD flags 0 0)) ++ laterLines days (drop 1 flags)
+unfoldable pub laterLine : (paid letter unadjusted : ℕ) → List ℕ
+laterLine paid letter unadjusted = dateText paid ++ (SPACE ∷ letter ∷ []) ++ bracketed paid unadjusted ++ (LINE ∷ [])
 
-unfoldable pub lines : List ℕ → List ℕ → List ℕ
-lines [] flags = []
-lines (day ∷ days) flags = firstLine day ++ laterLines days flags
+-- a line for each date, with the flag of the period that ends there; a flag that is not there counts as 0, an unadjusted date that is not there
+-- as equal to the paid one
+unfoldable pub laterLines : (dates flags unadjusted : List ℕ) → List ℕ
+laterLines [] flags unadjusted = []
+laterLines (day ∷ days) flags unadjusted =
+    laterLine day (mark (getD flags 0 0)) (getD unadjusted 0 day) ++ laterLines days (drop 1 flags) (drop 1 unadjusted)
+
+unfoldable pub lines : (dates flags unadjusted : List ℕ) → List ℕ
+lines [] flags unadjusted = []
+lines (day ∷ days) flags unadjusted = firstLine day (getD unadjusted 0 day) ++ laterLines days flags (drop 1 unadjusted)
 
 unfoldable pub header : ℕ → ℕ → List ℕ
 header count tries = decimal count ++ DATES ++ decimal tries ++ TRIES
 
 -- ---- what is printed of a schedule, and of a refusal
-unfoldable pub scheduleText : (tries : ℕ) (dates flags : List ℕ) → List ℕ
-scheduleText tries dates flags = header (length dates) tries ++ lines dates flags
+unfoldable pub scheduleText : (tries : ℕ) (dates flags unadjusted : List ℕ) → List ℕ
+scheduleText tries dates flags unadjusted = header (length dates) tries ++ lines dates flags unadjusted
 
 unfoldable pub refusalText : ℕ → List ℕ
 refusalText number = REFUSED ++ decimal number ++ (LINE ∷ [])

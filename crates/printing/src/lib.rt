@@ -16,15 +16,19 @@ mod numbers;
 // A line a date.
 mod lines;
 
-// Whether a header of that many bytes and the lines of n dates have room.
-fn has_room(head: usize, n: usize, room: usize) -> bool
+// Whether a header of that many bytes and the lines of n dates, some of them with brackets, have room.
+fn has_room(head: usize, n: usize, brackets: usize, room: usize) -> bool
     requires { ⌜ (2 ≤ head) × (head ≤ 64) ⌝ }
-    ensures { λ r. ⌜ r ≡ leb (head + (13 * n - 2)) room ⌝ }
+    ensures { λ r. ⌜ r ≡ leb (head + (13 * (n + brackets) - 2)) room ⌝ }
 {
     if room < head {
         return false;
     }
-    n <= (room - head + 2) / 13
+    let fitting = (room - head + 2) / 13;
+    if fitting < n {
+        return false;
+    }
+    brackets <= fitting - n
 }
 
 // The header, with two numbers in digits.
@@ -39,16 +43,23 @@ fn put_header(count: &[u8], tries: &[u8], out: &mut [u8]) -> usize
 }
 
 // The schedule's text put at the start of what is lent, and how many bytes it has; where it does not fit, 0 and nothing.
-pub fn schedule(tries: u32, dates: &[u32], flags: &[u8], out: &mut [u8]) -> usize
-    ensures { λ r. ⌜ Put (fitting (scheduleText tries (now (dates .entry)) (now (flags .entry))) (length (now (out .entry)))) 0 (now (out .entry)) r (now (out .exit)) ⌝ }
+pub fn schedule(
+    tries: u32,
+    dates: &[u32],
+    flags: &[u8],
+    unadjusted: &[u32],
+    out: &mut [u8],
+) -> usize
+    ensures { λ r. ⌜ Put (fitting (scheduleText tries (now (dates .entry)) (now (flags .entry)) (now (unadjusted .entry))) (length (now (out .entry)))) 0 (now (out .entry)) r (now (out .exit)) ⌝ }
 {
     let mut count = [0u8; 20];
     let mut tried = [0u8; 20];
     let c = numbers::spell(dates.len() as u64, &mut count);
     let t = numbers::spell(tries as u64, &mut tried);
-    if has_room(55 - c - t, dates.len(), out.len()) {
+    let brackets = lines::count_differing(dates, unadjusted);
+    if has_room(55 - c - t, dates.len(), brackets, out.len()) {
         let at = put_header(&count[c..], &tried[t..], out);
-        return lines::put_lines(dates, flags, at, out);
+        return lines::put_lines(dates, flags, unadjusted, at, out);
     }
     0
 }

@@ -78,10 +78,16 @@ module _ (s old list : List ℕ) (r : Decoded) (d : Decodes (decoded s (length o
   refusal-is n e = rw (unread _ r n (d .answer) e) refl
 
 -- a refused request does not look at the closed dates
-pub closed-unread : {closed closed′ dates flags answer dates′ flags′ answer′ : List ℕ} {r : ℤ} (n : ℕ) → Reported (refused n) closed r dates flags answer dates′ flags′ answer′ → Reported (refused n) closed′ r dates flags answer dates′ flags′ answer′
+pub closed-unread : {closed closed′ dates flags unadjusted answer dates′ flags′ unadjusted′ answer′ : List ℕ} {r : ℤ} (n : ℕ) → Reported (refused n) closed r dates flags unadjusted answer dates′ flags′ unadjusted′ answer′ → Reported (refused n) closed′ r dates flags unadjusted answer dates′ flags′ unadjusted′ answer′
 unfolding outcome then
 closed-unread n p =
-    record { count = p .count; dates-after = p .dates-after; flags-after = p .flags-after; answer-after = p .answer-after }
+    record {
+      count = p .count;
+      dates-after = p .dates-after;
+      flags-after = p .flags-after;
+      unadjusted-after = p .unadjusted-after;
+      answer-after = p .answer-after;
+    }
 
-pub closed-as : {dates flags answer dates′ flags′ answer′ : List ℕ} {r : ℤ} (x : Answer Request) (c d : List ℕ) → c ≡ d → Reported x c r dates flags answer dates′ flags′ answer′ → Reported x d r dates flags answer dates′ flags′ answer′
+pub closed-as : {dates flags unadjusted answer dates′ flags′ unadjusted′ answer′ : List ℕ} {r : ℤ} (x : Answer Request) (c d : List ℕ) → c ≡ d → Reported x c r dates flags unadjusted answer dates′ flags′ unadjusted′ answer′ → Reported x d r dates flags unadjusted answer dates′ flags′ unadjusted′ answer′
 closed-as x c d e p = rw (← e) p

@@ -12,12 +12,13 @@ use lib.Dec.{leb}
 use lib.IntN.{ℤ, pos, negℤ, natAbs}
 use lib.ListN.{length, set, length-set}
 use borrow.Author.Tests.{eq-eqb, ne-eqb, le-leb, lt-leb}
-use Rattle.refusal.specs.Answer.{Answer, given, refused}
+use Rattle.refusal.specs.Answer.{Answer, given, refused, then}
 use Rattle.refusal.specs.Laws.Answers.{fails, holds, then-given, then-refused}
 use Rattle.steps.specs.declared.Request.{Request}
 use Rattle.steps.specs.declared.Built.{Built}
 use Rattle.steps.specs.Rules.{ruleNumber}
-use Rattle.steps.specs.Build.{refusedBuilt, Schedule, buildOf, answered, over, datesAfter, flagsAfter, Written}
+use Rattle.steps.specs.Build.{refusedBuilt, answered, over, datesAfter, flagsAfter}
+use Rattle.steps.specs.Entries.{Entries, entriesOf, paidOf, unadjustedAfter, Written}
 use Rattle.crossing.specs.Answers.{oneNumber}
 use Rattle.crossing.specs.Numbers.{unitNumber}
 use Rattle.crossing.specs.Laws.Calls.{handed}
@@ -33,9 +34,9 @@ unfolding countIn
 count-refused b r e h = h ∙ sym (ap (λ (t : Bool). cond t (pos (b .count)) (negℤ (pos (b .number)))) (ne-eqb (b .number) 0 e))
 
 -- of a build it is the outcome's
-pub count-answered : (q : Request) (o : Answer Schedule) → countIn (answered q o) ≡ oneNumber howMany o
-unfolding countIn answered oneNumber howMany
-count-answered q (given s) = refl
+pub count-answered : (q : Request) (o : Answer Entries) → countIn (answered q (paidOf o)) ≡ oneNumber howMany o
+unfolding countIn answered oneNumber howMany paidOf then
+count-answered q (given e) = refl
 count-answered q (refused zero) = refl
 count-answered q (refused (suc n)) = simp (ne-eqb (suc n) 0 (λ z. omega (arith, z)))
 
@@ -78,16 +79,17 @@ module _ (l : List ℕ) (h : 6 ≤ length l) where
       rw (length-set (set (set (set l 0 a) 1 b) 2 c) 3 d, length-set (set (set l 0 a) 1 b) 2 c, length-set (set l 0 a) 1 b, length-set l 0 a) (omega (arith, h))
 
 -- ---- a way through a build: the record does not fit, the request was refused, or it was built
-module _ (x : Answer Request) (closed dates flags answer : List ℕ) {r : ℤ} (s : mag r < 9223372036854775808) where
-  pub reported-short : length answer < 6 → r ≡ negℤ (pos 14) → Reported x closed (toZ w64 (ofZ w64 r)) dates flags answer dates flags answer
-  unfolding oneNumber outcome datesAfter flagsAfter recorded
+module _ (x : Answer Request) (closed dates flags unadjusted answer : List ℕ) {r : ℤ} (s : mag r < 9223372036854775808) where
+  pub reported-short : length answer < 6 → r ≡ negℤ (pos 14) → Reported x closed (toZ w64 (ofZ w64 r)) dates flags unadjusted answer dates flags unadjusted answer
+  unfolding oneNumber outcome datesAfter flagsAfter unadjustedAfter paidOf then recorded
   reported-short h e =
       let t : leb 6 (length answer) ≡ false = lt-leb 6 (length answer) h in
-      let o : refused 14 ≡ outcome x closed dates flags answer = fails 14 _ _ t in
+      let o : refused 14 ≡ outcome x closed dates flags unadjusted answer = fails 14 _ _ t in
       record {
         count = handed r s (e ∙ ap (oneNumber howMany) o);
-        dates-after = ap (λ (y : Answer Schedule). datesAfter y dates) o;
-        flags-after = ap (λ (y : Answer Schedule). flagsAfter y flags) o;
+        dates-after = ap (λ (y : Answer Entries). datesAfter (paidOf y) dates) o;
+        flags-after = ap (λ (y : Answer Entries). flagsAfter (paidOf y) flags) o;
+        unadjusted-after = ap (λ (y : Answer Entries). unadjustedAfter y unadjusted) o;
         answer-after = rw t refl;
       }
 
@@ -95,24 +97,26 @@ module _ (x : Answer Request) (closed dates flags answer : List ℕ) {r : ℤ} (
     fits : leb 6 (length answer) ≡ true
     fits = le-leb 6 (length answer) h
 
-    pub reported-refused : (n : ℕ) → x ≡ refused n → b ≡ refusedBuilt n → Reported x closed (toZ w64 (ofZ w64 r)) dates flags answer dates flags answer′
-    unfolding outcome datesAfter flagsAfter recorded recordOf
+    pub reported-refused : (n : ℕ) → x ≡ refused n → b ≡ refusedBuilt n → Reported x closed (toZ w64 (ofZ w64 r)) dates flags unadjusted answer dates flags unadjusted answer′
+    unfolding outcome datesAfter flagsAfter unadjustedAfter paidOf then recorded recordOf
     reported-refused n p q =
-        let o : refused n ≡ outcome x closed dates flags answer = holds 14 _ _ _ fits (then-refused x n _ p) in
+        let o : refused n ≡ outcome x closed dates flags unadjusted answer = holds 14 _ _ _ fits (then-refused x n _ p) in
         record {
           count = handed r s (e ∙ ap countIn q ∙ count-unasked n ∙ ap (oneNumber howMany) o);
-          dates-after = ap (λ (y : Answer Schedule). datesAfter y dates) o;
-          flags-after = ap (λ (y : Answer Schedule). flagsAfter y flags) o;
+          dates-after = ap (λ (y : Answer Entries). datesAfter (paidOf y) dates) o;
+          flags-after = ap (λ (y : Answer Entries). flagsAfter (paidOf y) flags) o;
+          unadjusted-after = ap (λ (y : Answer Entries). unadjustedAfter y unadjusted) o;
           answer-after = rw (fits, p) (a ∙ ap (λ (y : Built). over (sixNumbers y) answer) q);
         }
 
-    pub reported-built : (q : Request) (dates′ flags′ : List ℕ) → x ≡ given q → Written q (buildOf q closed (length dates) (length flags)) b dates flags dates′ flags′ → Reported x closed (toZ w64 (ofZ w64 r)) dates flags answer dates′ flags′ answer′
+    pub reported-built : (q : Request) (dates′ flags′ unadjusted′ : List ℕ) → x ≡ given q → Written q (entriesOf q closed (length dates) (length flags) (length unadjusted)) b dates flags unadjusted dates′ flags′ unadjusted′ → Reported x closed (toZ w64 (ofZ w64 r)) dates flags unadjusted answer dates′ flags′ unadjusted′ answer′
     unfolding outcome recorded recordOf
-    reported-built q dates′ flags′ p w =
-        let o : buildOf q closed (length dates) (length flags) ≡ outcome x closed dates flags answer = holds 14 _ _ _ fits (then-given x q _ _ p refl) in
+    reported-built q dates′ flags′ unadjusted′ p w =
+        let o : entriesOf q closed (length dates) (length flags) (length unadjusted) ≡ outcome x closed dates flags unadjusted answer = holds 14 _ _ _ fits (then-given x q _ _ p refl) in
         record {
           count = handed r s (e ∙ ap countIn (w .answer) ∙ count-answered q _ ∙ ap (oneNumber howMany) o);
-          dates-after = w .dates-after ∙ ap (λ (y : Answer Schedule). datesAfter y dates) o;
-          flags-after = w .flags-after ∙ ap (λ (y : Answer Schedule). flagsAfter y flags) o;
-          answer-after = a ∙ ap (λ (y : Built). over (sixNumbers y) answer) (w .answer ∙ ap (answered q) o) ∙ rw (fits, p) refl;
+          dates-after = w .dates-after ∙ ap (λ (y : Answer Entries). datesAfter (paidOf y) dates) o;
+          flags-after = w .flags-after ∙ ap (λ (y : Answer Entries). flagsAfter (paidOf y) flags) o;
+          unadjusted-after = w .unadjusted-after ∙ ap (λ (y : Answer Entries). unadjustedAfter y unadjusted) o;
+          answer-after = a ∙ ap (λ (y : Built). over (sixNumbers y) answer) (w .answer ∙ ap (λ (y : Answer Entries). answered q (paidOf y)) o) ∙ rw (fits, p) refl;
         }

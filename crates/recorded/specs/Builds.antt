@@ -1,4 +1,4 @@
--- A build from numbers: what is answered, and what the three lent lists then hold.
+-- A build from numbers: what is answered, and what the four lent lists then hold.
 -- Assumes nothing.
 use Prim.Native.Nat.{ℕ}
 use mathlib.Core.Path.{_≡_}
@@ -11,7 +11,8 @@ use Rattle.refusal.specs.Answer.{Answer, given, refused, need, then, ROOM}
 use Rattle.steps.specs.declared.Request.{Request}
 use Rattle.steps.specs.declared.Built.{Built}
 use Rattle.steps.specs.Rules.{ruleNumber}
-use Rattle.steps.specs.Build.{Schedule, buildOf, refusedBuilt, answered, over, datesAfter, flagsAfter}
+use Rattle.steps.specs.Build.{refusedBuilt, answered, over, datesAfter, flagsAfter}
+use Rattle.steps.specs.Entries.{Entries, entriesOf, paidOf, unadjustedAfter}
 use Rattle.crossing.specs.Answers.{oneNumber}
 use Rattle.crossing.specs.Numbers.{unitNumber}
 
@@ -19,16 +20,16 @@ use Rattle.crossing.specs.Numbers.{unitNumber}
 abbrev pub fitsRecord : List ℕ → Bool
 fitsRecord answer = leb 6 (length answer)
 
-unfoldable pub outcome : Answer Request → (closed dates flags answer : List ℕ) → Answer Schedule
-outcome q closed dates flags answer =
-    need ROOM (fitsRecord answer) (then q (λ request. buildOf request closed (length dates) (length flags)))
+unfoldable pub outcome : Answer Request → (closed dates flags unadjusted answer : List ℕ) → Answer Entries
+outcome q closed dates flags unadjusted answer =
+    need ROOM (fitsRecord answer) (then q (λ request. entriesOf request closed (length dates) (length flags) (length unadjusted)))
 
-unfoldable pub howMany : Schedule → ℕ
-howMany s = length (s .dates)
+unfoldable pub howMany : Entries → ℕ
+howMany e = length (e .schedule .dates)
 
 -- ---- the record: number, count, tries, rule in force, size and unit of the tenor in force
-unfoldable pub recordOf : Answer Request → Answer Schedule → Built
-recordOf (given q) o = answered q o
+unfoldable pub recordOf : Answer Request → Answer Entries → Built
+recordOf (given q) o = answered q (paidOf o)
 recordOf (refused n) o = refusedBuilt n
 
 unfoldable pub sixNumbers : Built → List ℕ
@@ -44,8 +45,9 @@ unfoldable pub countIn : Built → ℤ
 countIn b = cond (eqb (b .number) 0) (pos (b .count)) (negℤ (pos (b .number)))
 
 -- the promise of a build
-pub record Reported (q : Answer Request) (closed : List ℕ) (r : ℤ) (dates flags answer dates′ flags′ answer′ : List ℕ) : Type 0 where
-  pub count : r ≡ oneNumber howMany (outcome q closed dates flags answer)
-  pub dates-after : dates′ ≡ datesAfter (outcome q closed dates flags answer) dates
-  pub flags-after : flags′ ≡ flagsAfter (outcome q closed dates flags answer) flags
-  pub answer-after : answer′ ≡ recorded (fitsRecord answer) (recordOf q (outcome q closed dates flags answer)) answer
+pub record Reported (q : Answer Request) (closed : List ℕ) (r : ℤ) (dates flags unadjusted answer dates′ flags′ unadjusted′ answer′ : List ℕ) : Type 0 where
+  pub count : r ≡ oneNumber howMany (outcome q closed dates flags unadjusted answer)
+  pub dates-after : dates′ ≡ datesAfter (paidOf (outcome q closed dates flags unadjusted answer)) dates
+  pub flags-after : flags′ ≡ flagsAfter (paidOf (outcome q closed dates flags unadjusted answer)) flags
+  pub unadjusted-after : unadjusted′ ≡ unadjustedAfter (outcome q closed dates flags unadjusted answer) unadjusted
+  pub answer-after : answer′ ≡ recorded (fitsRecord answer) (recordOf q (outcome q closed dates flags unadjusted answer)) answer

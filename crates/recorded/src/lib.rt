@@ -53,16 +53,17 @@ pub fn build(
     closed: &[u32],
     dates: &mut [u32],
     flags: &mut [u8],
+    unadjusted: &mut [u32],
     answer: &mut [u32],
 ) -> i64
-    ensures { λ r. ⌜ Reported (asked request) (now (closed .entry)) r (now (dates .entry)) (now (flags .entry)) (now (answer .entry)) (now (dates .exit)) (now (flags .exit)) (now (answer .exit)) ⌝ }
+    ensures { λ r. ⌜ Reported (asked request) (now (closed .entry)) r (now (dates .entry)) (now (flags .entry)) (now (unadjusted .entry)) (now (answer .entry)) (now (dates .exit)) (now (flags .exit)) (now (unadjusted .exit)) (now (answer .exit)) ⌝ }
 {
     if answer.len() < 6 {
         return answers::minus(refusal::ROOM);
     }
     match request {
         FromNumbers::Is(q) => {
-            let built = schedule::build(q, closed, dates, flags);
+            let built = schedule::build(q, closed, dates, flags, unadjusted);
             report(built, answer)
         }
         FromNumbers::Refused(n) => report(steps::refused(n), answer),
@@ -75,24 +76,45 @@ fn build_read(
     closed: &mut [u32],
     dates: &mut [u32],
     flags: &mut [u8],
+    unadjusted: &mut [u32],
     answer: &mut [u32],
 ) -> i64
-    ensures { λ r. ⌜ Reported (requestIn (decoded (now (bytes .entry)) (length (now (closed .entry))))) (closedIn (decoded (now (bytes .entry)) (length (now (closed .entry))))) r (now (dates .entry)) (now (flags .entry)) (now (answer .entry)) (now (dates .exit)) (now (flags .exit)) (now (answer .exit)) ⌝ }
+    ensures { λ r. ⌜ Reported (requestIn (decoded (now (bytes .entry)) (length (now (closed .entry))))) (closedIn (decoded (now (bytes .entry)) (length (now (closed .entry))))) r (now (dates .entry)) (now (flags .entry)) (now (unadjusted .entry)) (now (answer .entry)) (now (dates .exit)) (now (flags .exit)) (now (unadjusted .exit)) (now (answer .exit)) ⌝ }
 {
     let read = request::decode(bytes, closed);
     match read {
         Decoded::Asked {
             request: q,
             closed: n,
-        } => build(FromNumbers::Is(q), &closed[0..n], dates, flags, answer),
-        Decoded::Refused(k) => build(FromNumbers::Refused(k), closed, dates, flags, answer),
+        } => build(
+            FromNumbers::Is(q),
+            &closed[0..n],
+            dates,
+            flags,
+            unadjusted,
+            answer,
+        ),
+        Decoded::Refused(k) => build(
+            FromNumbers::Refused(k),
+            closed,
+            dates,
+            flags,
+            unadjusted,
+            answer,
+        ),
     }
 }
 
 // Builds what the bytes ask for, and puts the record of it into the start of `answer`.
-pub fn build_bytes(bytes: &[u8], dates: &mut [u32], flags: &mut [u8], answer: &mut [u32]) -> i64
-    ensures { λ r. ⌜ Reported (requestIn (decoded (now (bytes .entry)) 4096)) (closedIn (decoded (now (bytes .entry)) 4096)) r (now (dates .entry)) (now (flags .entry)) (now (answer .entry)) (now (dates .exit)) (now (flags .exit)) (now (answer .exit)) ⌝ }
+pub fn build_bytes(
+    bytes: &[u8],
+    dates: &mut [u32],
+    flags: &mut [u8],
+    unadjusted: &mut [u32],
+    answer: &mut [u32],
+) -> i64
+    ensures { λ r. ⌜ Reported (requestIn (decoded (now (bytes .entry)) 4096)) (closedIn (decoded (now (bytes .entry)) 4096)) r (now (dates .entry)) (now (flags .entry)) (now (unadjusted .entry)) (now (answer .entry)) (now (dates .exit)) (now (flags .exit)) (now (unadjusted .exit)) (now (answer .exit)) ⌝ }
 {
     let mut closed = [0u32; 4096];
-    build_read(bytes, &mut closed, dates, flags, answer)
+    build_read(bytes, &mut closed, dates, flags, unadjusted, answer)
 }

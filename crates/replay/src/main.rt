@@ -32,6 +32,7 @@ fn ask_build(
     closed: &[u32],
     dates: &mut [u32],
     flags: &mut [u8],
+    unadjusted: &mut [u32],
     answer: &mut [u32],
 ) -> i64 {
     heronspan_build(
@@ -49,6 +50,7 @@ fn ask_build(
         closed,
         dates,
         flags,
+        unadjusted,
         answer,
     )
 }
@@ -57,12 +59,21 @@ fn one_fewer(n: u32) -> u32 {
     if n == 0 { 0 } else { n - 1 }
 }
 
-// A build agrees if its record, its dates and its flags do.
+// A build agrees if its record, its paid dates and its flags do: the Rust has no unadjusted dates.
 fn build_agrees(words: &[u32], at: u32, closed: &[u32], told: u32) -> bool {
     let mut dates = [0u32; 4096];
     let mut flags = [0u8; 4096];
+    let mut unadjusted = [0u32; 4096];
     let mut answer = [0u32; 6];
-    ask_build(words, at, closed, &mut dates, &mut flags, &mut answer);
+    ask_build(
+        words,
+        at,
+        closed,
+        &mut dates,
+        &mut flags,
+        &mut unadjusted,
+        &mut answer,
+    );
     let count = answer[1];
     let listed = wrapping_add_u32(told, 6);
     let flagged = wrapping_add_u32(listed, count);

@@ -8,12 +8,17 @@ use native.Mathlib.Omega.{arith}
 use lib.Dec.{leb}
 use lib.ListN.{length, take, drop, getD, replicate, length-append}
 use lib.Seq.{take-append-seam, getD-drop}
-use borrow.Author.Tests.{leb-true}
-use Rattle.refusal.specs.Answer.{Answer, given, refused}
+use borrow.Author.Tests.{leb-true, le-leb}
+use Rattle.refusal.specs.Answer.{Answer, given, refused, then}
 use Rattle.steps.specs.declared.Request.{Request}
 use Rattle.steps.specs.declared.Built.{Built}
-use Rattle.steps.specs.Build.{Schedule, buildOf, answered, over, datesAfter, flagsAfter, Written}
+use Rattle.steps.specs.Build.{answered, over, datesAfter, flagsAfter}
+use Rattle.steps.specs.Entries.{Entries, entriesOf, paidOf, unadjustedAfter, Written}
+use Rattle.steps.specs.Laws.Counts.{build-flagged}
+use Rattle.steps.specs.Laws.Tries.{build-tries}
+use Rattle.steps.specs.Laws.Entries.{its-schedule, as-many-unadjusted}
 use Rattle.outcomes.specs.Refusals.{never-zero}
+use Rattle.outcomes.specs.Uneven.{refused-as-before}
 use Rattle.request.specs.declared.Decoded.{Decoded}
 use Rattle.request.specs.declared.Decoded.the-variants as decoded-is
 use Rattle.request.specs.Format.{Asked, decoded}
@@ -22,7 +27,7 @@ use Rattle.request.specs.Decode.{Decodes, closedAfter}
 use Rattle.printing.specs.Text.{pick, laterLines, lines, scheduleText, refusalText}
 use Rattle.printing.specs.Put.{Put, fitting}
 use Rattle.printing.specs.Laws.Lengths.{schedule-fits, refusal-fits}
-use Rattle.reply.specs.Reply.{builtText, askedText, replyText, Replies, Zeros}
+use Rattle.reply.specs.Reply.{builtText, askedText, replyText, Replies, Printed, Zeros}
 use Rattle.reply.specs.Shown.{byNumber, shownText}
 
 -- ---- by the number
@@ -36,14 +41,14 @@ unfolding byNumber
 shown-given zero text e = refl
 shown-given (suc n) text e = absurd (let bad : ⊥ = omega arith in bad)
 
-module _ (b : Built) (dates flags : List ℕ) {old new : List ℕ} {end : ℕ} where
-  pub put-refusal : (b .number ≡ 0 → ⊥) → Put (fitting (refusalText (b .number)) (length old)) 0 old end new → Put (fitting (shownText b dates flags) (length old)) 0 old end new
+module _ (b : Built) (dates flags unadjusted : List ℕ) {old new : List ℕ} {end : ℕ} where
+  pub put-refusal : (b .number ≡ 0 → ⊥) → Put (fitting (refusalText (b .number)) (length old)) 0 old end new → Put (fitting (shownText b dates flags unadjusted) (length old)) 0 old end new
   unfolding shownText
-  put-refusal h p = rw (sym (shown-refused (b .number) (scheduleText (b .tries) (take (b .count) dates) flags) h)) p
+  put-refusal h p = rw (sym (shown-refused (b .number) (scheduleText (b .tries) (take (b .count) dates) flags (take (b .count) unadjusted)) h)) p
 
-  pub put-schedule : b .number ≡ 0 → Put (fitting (scheduleText (b .tries) (take (b .count) dates) flags) (length old)) 0 old end new → Put (fitting (shownText b dates flags) (length old)) 0 old end new
+  pub put-schedule : b .number ≡ 0 → Put (fitting (scheduleText (b .tries) (take (b .count) dates) flags (take (b .count) unadjusted)) (length old)) 0 old end new → Put (fitting (shownText b dates flags unadjusted) (length old)) 0 old end new
   unfolding shownText
-  put-schedule h p = rw (sym (shown-given (b .number) (scheduleText (b .tries) (take (b .count) dates) flags) h)) p
+  put-schedule h p = rw (sym (shown-given (b .number) (scheduleText (b .tries) (take (b .count) dates) flags (take (b .count) unadjusted)) h)) p
 
 -- ---- flags that are 0 and flags that are not there print the same
 Alike : List ℕ → List ℕ → Type 0
@@ -53,16 +58,16 @@ alike-tails : (f g : List ℕ) → Alike f g → Alike (drop 1 f) (drop 1 g)
 unfolding Alike
 alike-tails f g h i = getD-drop 1 f i 0 ∙ h (1 + i) ∙ sym (getD-drop 1 g i 0)
 
-laters-alike : (dates f g : List ℕ) → Alike f g → laterLines dates f ≡ laterLines dates g
+laters-alike : (dates f g unadjusted : List ℕ) → Alike f g → laterLines dates f unadjusted ≡ laterLines dates g unadjusted
 unfolding Alike laterLines
-laters-alike [] f g h = refl
-laters-alike (day ∷ days) f g h =
-    rw (h 0) (rw (laters-alike days (drop 1 f) (drop 1 g) (alike-tails f g h)))
+laters-alike [] f g unadjusted h = refl
+laters-alike (day ∷ days) f g unadjusted h =
+    rw (h 0) (rw (laters-alike days (drop 1 f) (drop 1 g) (drop 1 unadjusted) (alike-tails f g h)))
 
-text-alike : (tries : ℕ) (dates f g : List ℕ) → Alike f g → scheduleText tries dates f ≡ scheduleText tries dates g
+text-alike : (tries : ℕ) (dates f g unadjusted : List ℕ) → Alike f g → scheduleText tries dates f unadjusted ≡ scheduleText tries dates g unadjusted
 unfolding scheduleText lines
-text-alike tries [] f g h = refl
-text-alike tries (day ∷ days) f g h = rw (laters-alike days f g h)
+text-alike tries [] f g unadjusted h = refl
+text-alike tries (day ∷ days) f g unadjusted h = rw (laters-alike days f g (drop 1 unadjusted) h)
 
 behind-zeros : (xs rest : List ℕ) → Zeros rest → Alike (xs ++ rest) xs
 unfolding Alike
@@ -95,41 +100,61 @@ over-length : (new old : List ℕ) → length new ≤ length (over new old)
 unfolding over
 over-length new old = omega (arith, length-append new (drop (length new) old))
 
+-- ---- every text of a build is short, and none is refused 0
+built-short : (q : Request) (closed : List ℕ) → length (builtText (entriesOf q closed 4096 4096 4096)) ≤ 106519
+unfolding builtText
+built-short q closed = by (entriesOf q closed 4096 4096 4096) refl
+  where
+    by : (o : Answer Entries) → entriesOf q closed 4096 4096 4096 ≡ o → length (builtText o) ≤ 106519
+    by (given e) h =
+        let s = its-schedule q closed 4096 4096 4096 e h in
+        schedule-fits (e .schedule .tries) (e .schedule .dates) (e .schedule .flags) (e .unadjusted) (build-flagged q closed 4096 4096 (e .schedule) s .fits) (build-tries q closed 4096 4096 (e .schedule) s)
+    by (refused n) h = refusal-fits n
+
+never-refused-zero : (q : Request) (closed : List ℕ) → entriesOf q closed 4096 4096 4096 ≡ refused 0 → ⊥
+never-refused-zero q closed h = never-zero q closed 4096 4096 (refused-as-before q closed 4096 4096 4096 refl 0 .0 h)
+
 -- ---- a build
-module _ {q : Request} {r : Built} {dates flags dates′ flags′ : List ℕ} where
+-- as many unadjusted dates as dates
+Paired : Answer Entries → Type 0
+Paired o = (e : Entries) → o ≡ given e → length (e .unadjusted) ≡ length (e .schedule .dates)
+
+module _ {q : Request} {r : Built} {dates flags unadjusted dates′ flags′ unadjusted′ : List ℕ} where
   -- the number tells, as no build is refused 0
-  shown-built : (o : Answer Schedule) → (o ≡ refused 0 → ⊥) → Written q o r dates flags dates′ flags′ → Zeros flags → shownText r dates′ flags′ ≡ builtText o
-  unfolding shownText builtText byNumber answered datesAfter flagsAfter scheduleText lines
-  shown-built (given s) n w z =
-      rw (w .answer, w .dates-after, w .flags-after, take-over (s .dates) dates)
-      (text-alike (s .tries) (s .dates) (over (s .flags) flags) (s .flags) (over-zeros (s .flags) flags z))
-  shown-built (refused zero) n w z = absurd (n refl)
-  shown-built (refused (suc k)) n w z = rw (w .answer)
+  shown-built : (o : Answer Entries) → Paired o → (o ≡ refused 0 → ⊥) → Written q o r dates flags unadjusted dates′ flags′ unadjusted′ → Zeros flags → shownText r dates′ flags′ unadjusted′ ≡ builtText o
+  unfolding Paired shownText builtText byNumber answered datesAfter flagsAfter unadjustedAfter paidOf then
+  shown-built (given e) k n w z =
+      let t : take (length (e .schedule .dates)) (over (e .unadjusted) unadjusted) ≡ e .unadjusted = rw (sym (k e refl)) (take-over (e .unadjusted) unadjusted) in
+      rw (w .answer, w .dates-after, w .flags-after, w .unadjusted-after, take-over (e .schedule .dates) dates, t)
+      (text-alike (e .schedule .tries) (e .schedule .dates) (over (e .schedule .flags) flags) (e .schedule .flags) (e .unadjusted) (over-zeros (e .schedule .flags) flags z))
+  shown-built (refused zero) k n w z = absurd (n refl)
+  shown-built (refused (suc m)) k n w z = rw (w .answer)
 
-  pub built-count : (o : Answer Schedule) → Written q o r dates flags dates′ flags′ → r .count ≤ length dates′
-  unfolding answered datesAfter
-  built-count (given s) w = rw (w .answer, w .dates-after) (over-length (s .dates) dates)
-  built-count (refused n) w = rw (w .answer) (omega arith)
+  counts-fit : (o : Answer Entries) → Paired o → Written q o r dates flags unadjusted dates′ flags′ unadjusted′ → (r .count ≤ length dates′) × (r .count ≤ length unadjusted′)
+  unfolding Paired answered datesAfter unadjustedAfter paidOf then
+  counts-fit (given e) k w =
+      (rw (w .answer, w .dates-after) (over-length (e .schedule .dates) dates), rw (w .answer, w .unadjusted-after) (omega (arith, k e refl, over-length (e .unadjusted) unadjusted)))
+  counts-fit (refused n) k w = (rw (w .answer) (omega arith), rw (w .answer) (omega arith))
 
-  built-short : (o : Answer Schedule) → Written q o r dates flags dates′ flags′ → length dates′ ≤ 4096 → length (builtText o) ≤ 65536
-  unfolding builtText datesAfter
-  built-short (given s) w h =
-      let d : dates′ ≡ over (s .dates) dates = w .dates-after in
-      schedule-fits (s .tries) (s .dates) (s .flags) (omega (arith, over-length (s .dates) dates, ap length d))
-  built-short (refused n) w h = refusal-fits n
+  pub built-count : (closed : List ℕ) → Written q (entriesOf q closed (length dates) (length flags) (length unadjusted)) r dates flags unadjusted dates′ flags′ unadjusted′ → (r .count ≤ length dates′) × (r .count ≤ length unadjusted′)
+  unfolding Paired
+  built-count closed w = counts-fit _ (as-many-unadjusted q closed (length dates) (length flags) (length unadjusted)) w
 
-  pub built-replies : (closed : List ℕ) {old new : List ℕ} {end : ℕ} → length dates ≡ 4096 → length flags ≡ 4096 → Zeros flags → length dates′ ≡ length dates → Written q (buildOf q closed (length dates) (length flags)) r dates flags dates′ flags′ → Put (fitting (shownText r dates′ flags′) (length old)) 0 old end new → Replies (builtText (buildOf q closed 4096 4096)) old end new
-  built-replies closed {old} {new} {end} d f z k w p =
-      let v : Written q (buildOf q closed 4096 4096) r dates flags dates′ flags′ = rw (d, f) at w in
+  pub built-replies : (closed : List ℕ) {old new : List ℕ} {end : ℕ} → length dates ≡ 4096 → length flags ≡ 4096 → length unadjusted ≡ 4096 → Zeros flags → Written q (entriesOf q closed (length dates) (length flags) (length unadjusted)) r dates flags unadjusted dates′ flags′ unadjusted′ → Put (fitting (shownText r dates′ flags′ unadjusted′) (length old)) 0 old end new → Replies (builtText (entriesOf q closed 4096 4096 4096)) old end new
+  unfolding Paired
+  built-replies closed {old} {new} {end} d f u z w p =
+      let v : Written q (entriesOf q closed 4096 4096 4096) r dates flags unadjusted dates′ flags′ unadjusted′ = rw (d, f, u) at w in
+      let k = as-many-unadjusted q closed 4096 4096 4096 in
+      let n = never-refused-zero q closed in
       record {
-        put = rw (shown-built (buildOf q closed 4096 4096) (never-zero q closed 4096 4096) v z) at p;
+        put = rw (shown-built (entriesOf q closed 4096 4096 4096) k n v z) at p;
         within = put-within _ p;
-        short = built-short (buildOf q closed 4096 4096) v (omega arith);
+        short = built-short q closed;
       }
 
 -- ---- a request
 module _ {r : Decoded} {closed closed′ : List ℕ} where
-  asked-replies : (o : Answer Asked) (q : Request) (count : ℕ) {old new : List ℕ} {end : ℕ} → Decodes o r closed closed′ → r ≡ decoded-is.Asked q count → Replies (builtText (buildOf q (take count closed′) 4096 4096)) old end new → Replies (askedText o) old end new
+  asked-replies : (o : Answer Asked) (q : Request) (count : ℕ) {old new : List ℕ} {end : ℕ} → Decodes o r closed closed′ → r ≡ decoded-is.Asked q count → Replies (builtText (entriesOf q (take count closed′) 4096 4096 4096)) old end new → Replies (askedText o) old end new
   unfolding askedText request.answered closedAfter
   asked-replies (given a) q count {old} {new} {end} w e p =
       let e′ : decoded-is.Asked (a .request) (length (a .closed)) ≡ decoded-is.Asked q count = sym (w .answer) ∙ e in
@@ -170,7 +195,7 @@ module _ {r : Decoded} {closed closed′ : List ℕ} where
       absurd bad
 
   module _ (bytes : List ℕ) (w : Decodes (decoded bytes (length closed)) r closed closed′) where
-    pub served : (q : Request) (count : ℕ) {old new : List ℕ} {end : ℕ} → length closed ≡ 4096 → r ≡ decoded-is.Asked q count → Replies (builtText (buildOf q (take count closed′) 4096 4096)) old end new → Replies (replyText bytes) old end new
+    pub served : (q : Request) (count : ℕ) {old new : List ℕ} {end : ℕ} → length closed ≡ 4096 → r ≡ decoded-is.Asked q count → Replies (builtText (entriesOf q (take count closed′) 4096 4096 4096)) old end new → Replies (replyText bytes) old end new
     unfolding replyText
     served q count l e p = asked-replies (decoded bytes 4096) q count (rw l at w) e p
 
@@ -180,6 +205,12 @@ module _ {r : Decoded} {closed closed′ : List ℕ} where
 
     pub served-count : (q : Request) (count : ℕ) → r ≡ decoded-is.Asked q count → count ≤ length closed′
     served-count q count e = asked-count (decoded bytes (length closed)) q count w e
+
+-- ---- a text in 106,519 bytes
+pub printed-whole : (text : List ℕ) {old new : List ℕ} {end : ℕ} → length old ≡ 106519 → Replies text old end new → Printed text old end new
+unfolding fitting
+printed-whole text {old} l p =
+    record { put = rw (le-leb (length text) (length old) (omega (arith, p .short))) at (p .put); within = p .within }
 
 -- ---- the lists that are lent
 fresh-zero : (n i : ℕ) → _≡_ {A = ℕ} (getD (replicate n 0) i 0) 0

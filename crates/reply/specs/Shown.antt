@@ -10,5 +10,6 @@ unfoldable pub byNumber : ℕ → List ℕ → List ℕ
 byNumber zero text = text
 byNumber (suc n) text = refusalText (suc n)
 
-unfoldable pub shownText : Built → List ℕ → List ℕ → List ℕ
-shownText b dates flags = byNumber (b .number) (scheduleText (b .tries) (take (b .count) dates) flags)
+unfoldable pub shownText : Built → (dates flags unadjusted : List ℕ) → List ℕ
+shownText b dates flags unadjusted =
+    byNumber (b .number) (scheduleText (b .tries) (take (b .count) dates) flags (take (b .count) unadjusted))

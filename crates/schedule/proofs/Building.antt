@@ -8,25 +8,26 @@ use native.Mathlib.Omega.{arith}
 use lib.ListN.{length, take, drop, length-drop}
 use lib.Seq.{length-take-le}
 use Rattle.refusal.specs.Answer.{Answer, given, refused, then}
-use Rattle.refusal.specs.Laws.Answers.{then-given, then-refused}
+use Rattle.refusal.specs.Laws.Answers.{then-given, then-refused, fails, holds}
+use borrow.Author.Tests.{eq-eqb, ne-eqb}
 use Rattle.steps.specs.declared.Rule.{Rule}
 use Rattle.steps.specs.declared.Request.{Request}
 use Rattle.steps.specs.declared.Built.{Built}
 use Rattle.steps.specs.Rules.{isZero, isBackward, ruleInForce}
 use Rattle.steps.specs.Table.{firstRow, inputRows}
 use Rattle.steps.specs.Laws.Table.{accepted}
-use Rattle.steps.specs.Generate.{zeroDates, forward}
-use Rattle.steps.specs.Fewer.Steps.{keptBackward, keptBy, kept, keptFinish, keptSteps}
-use Rattle.steps.specs.Fewer.Same.{kept-steps}
-use Rattle.steps.specs.Build.{refusedBuilt, Schedule, stepsOf, admitted, buildOf, answered, datesAfter, flagsAfter, Written}
+use Rattle.steps.specs.Generate.{zeroDates, backward, forward, generateBy, generate}
+use Rattle.steps.specs.Build.{refusedBuilt, admitted, answered, datesAfter, flagsAfter}
+use Rattle.steps.specs.Entries.{Entries, pairsOf, mergedEntries, entriesOfMade, entrySteps, entriesOf, paidOf, unadjustedAfter, Written}
 use Rattle.working.specs.declared.Piece.{Piece}
 use Rattle.working.specs.declared.Generated.{Generated}
 use Rattle.working.specs.declared.Generated.the-variants as generated-is
 use Rattle.working.specs.Step.{was-given, was-refused, was-kept}
-use Rattle.working.specs.Part.{Work, Part, Placed}
-use Rattle.finish.specs.Finishing.{scheduled, Lent, completed}
+use Rattle.working.specs.Part.{Work, working, Part, Placed}
+use Rattle.finish.specs.Finishing.{Lent, completed}
 use Rattle.finish.specs.Laws.Lending.{lent-fits, completed-on}
-use Rattle.working.specs.Making.{Checked, piece, generated, Lies, Generates}
+use Rattle.finish.specs.Paying.{PaidAlready}
+use Rattle.working.specs.Making.{Checked, piece, generated, Lies, Pays, Laid, Generates}
 
 -- ---- Zero
 pub zero-size : {room n : ℕ} {w : Work} → Placed room n w → n ≤ 4096
@@ -37,20 +38,20 @@ module _ (q : Request) (closed : List ℕ) (rule : Rule) (r : rule ≡ ruleInFor
   in-force : z ≡ isZero (ruleInForce q)
   in-force = p ∙ ap isZero r
 
-  pub generate-zero : (room : ℕ) → z ≡ true → zeroDates q room ≡ kept q closed room
-  unfolding kept keptBy
+  pub generate-zero : (room : ℕ) → z ≡ true → zeroDates q room ≡ generate q closed room
+  unfolding generate generateBy
   generate-zero room e = rw (sym in-force ∙ e) refl
 
   module _ (room : ℕ) (e : z ≡ false) (b : Bool) (s : b ≡ isBackward rule) where
     in-back : b ≡ isBackward (ruleInForce q)
     in-back = s ∙ ap isBackward r
 
-    pub generate-back : b ≡ true → keptBackward q closed room ≡ kept q closed room
-    unfolding kept keptBy
+    pub generate-back : b ≡ true → backward q closed room ≡ generate q closed room
+    unfolding generate generateBy
     generate-back h = rw (sym in-force ∙ e, sym in-back ∙ h) refl
 
-    pub generate-forth : b ≡ false → forward q closed room ≡ kept q closed room
-    unfolding kept keptBy
+    pub generate-forth : b ≡ false → forward q closed room ≡ generate q closed room
+    unfolding generate generateBy
     generate-forth h = rw (sym in-force ∙ e, sym in-back ∙ h) refl
 
 -- ---- the checks
@@ -69,64 +70,78 @@ module _ (l : List ℕ) (at n end : ℕ) (size : length l ≡ 4096) (e : end ≡
       rw k (length-take-le n (drop at l) (omega arith))
 
 -- ---- refusals, and what was generated
-pub refusal-written : (q : Request) (o : Answer Schedule) (k : ℕ) (r : Built) (dates flags : List ℕ) → r ≡ refusedBuilt k → refused k ≡ o → Written q o r dates flags dates flags
-unfolding answered datesAfter flagsAfter
-refusal-written q o k r dates flags b e = rw (← e) (record { answer = b; dates-after = refl; flags-after = refl })
+pub refusal-written : (q : Request) (o : Answer Entries) (k : ℕ) (r : Built) (dates flags unadjusted : List ℕ) → r ≡ refusedBuilt k → refused k ≡ o → Written q o r dates flags unadjusted dates flags unadjusted
+unfolding paidOf then answered datesAfter flagsAfter unadjustedAfter
+refusal-written q o k r dates flags unadjusted b e = rw (← e) (record { answer = b; dates-after = refl; flags-after = refl; unadjusted-after = refl })
 
-module _ (q : Request) (closed : List ℕ) (lent : ℕ) {room : ℕ} (g : Generated) (w : Work) (p : Generates room (kept q closed room) g w) (least : room ≡ min lent 4096) where
-  pub run-stop : (k : ℕ) → g ≡ generated-is.Refused k → refused k ≡ stepsOf q closed lent
-  unfolding keptSteps generated
+module _ (A : ℕ → Answer ℕ) (q : Request) (closed : List ℕ) (lent : ℕ) {room : ℕ} (g : Generated) (w : Work) (paid : List ℕ) (p : Generates A room (generate q closed room) g w paid) (least : room ≡ min lent 4096) where
+  pub run-stop : (k : ℕ) → g ≡ generated-is.Refused k → refused k ≡ entrySteps q closed lent
+  unfolding entrySteps generated
   run-stop k e =
       let h : generated g ≡ refused k = rw e in
-      let s : kept q closed room ≡ refused k = was-refused p k h in
-      then-refused _ k _ (rw least at s) ∙ sym (kept-steps q closed lent)
+      let s : generate q closed room ≡ refused k = was-refused p k h in
+      then-refused _ k _ (rw least at s)
 
-  pub run-on : (c : Piece) → g ≡ generated-is.Ready c → then (keptFinish q closed (c .seed) (take (c .n) (drop (c .from) (w .days))) (take (c .n - 1) (drop (c .marked) (w .marks)))) (scheduled (c .tries)) ≡ stepsOf q closed lent
-  unfolding keptSteps generated piece scheduled
+  pub run-on : (c : Piece) → g ≡ generated-is.Ready c → then (pairsOf q closed (c .seed) (take (c .n) (drop (c .from) (w .days)))) (mergedEntries (take (c .n - 1) (drop (c .marked) (w .marks))) (c .tries)) ≡ entrySteps q closed lent
+  unfolding entrySteps entriesOfMade generated piece
   run-on c e =
       let h : generated g ≡ given c = rw e in
-      let k : kept q closed room ≡ given (piece w c) = was-given p c h in
-      then-given _ _ _ _ (rw least at k) refl ∙ sym (kept-steps q closed lent)
+      let k : generate q closed room ≡ given (piece w c) = was-given p c h in
+      then-given _ _ _ _ (rw least at k) refl
 
   -- what was generated fits into what is lent
-  pub run-lies : (c : Piece) → g ≡ generated-is.Ready c → Lies lent c
+  pub run-laid : (c : Piece) → g ≡ generated-is.Ready c → Laid A lent w paid c
   unfolding generated
-  run-lies c e =
+  run-laid c e =
       let h : generated g ≡ given c = rw e in
-      let l = was-kept p c h in
+      let d = was-kept p c h in
+      let l = d .lies in
       let f = l .fits in
-      record { some = l .some; fits = omega arith; dates-end = l .dates-end; flags-end = l .flags-end }
+      record { lies = record { some = l .some; fits = omega arith; dates-end = l .dates-end; flags-end = l .flags-end }; pays = d .pays }
 
 -- ---- the whole build
-module _ (q : Request) (closed : List ℕ) (dates flags number : ℕ) (p : number ≡ firstRow (inputRows q closed dates flags)) where
-  pub build-refused : (number ≡ 0 → ⊥) → refused number ≡ buildOf q closed dates flags
-  unfolding buildOf admitted
-  build-refused h = rw (sym p) (go number h)
+pub build-uneven : (q : Request) (closed : List ℕ) (dates flags unadjusted : ℕ) → (dates ≡ unadjusted → ⊥) → refused 1 ≡ entriesOf q closed dates flags unadjusted
+unfolding entriesOf
+build-uneven q closed dates flags unadjusted h = fails 1 _ _ (ne-eqb dates unadjusted h)
+
+module _ (q : Request) (closed : List ℕ) (dates flags unadjusted : ℕ) (even : dates ≡ unadjusted) (number : ℕ) (p : number ≡ firstRow (inputRows q closed dates flags)) where
+  pub build-refused : (number ≡ 0 → ⊥) → refused number ≡ entriesOf q closed dates flags unadjusted
+  unfolding entriesOf admitted
+  build-refused h = holds 1 _ _ _ (eq-eqb dates unadjusted even) (rw (sym p) (go number h))
     where
-      go : (n : ℕ) → (n ≡ 0 → ⊥) → refused n ≡ admitted n (stepsOf q closed) dates
+      go : (n : ℕ) → (n ≡ 0 → ⊥) → refused n ≡ admitted n (entrySteps q closed) dates
       go zero h = absurd (h refl)
       go (suc n) h = refl
 
-  pub build-admitted : number ≡ 0 → stepsOf q closed dates ≡ buildOf q closed dates flags
-  unfolding buildOf admitted
-  build-admitted e = rw (sym p ∙ e) refl
+  pub build-admitted : number ≡ 0 → entrySteps q closed dates ≡ entriesOf q closed dates flags unadjusted
+  unfolding entriesOf admitted
+  build-admitted e = holds 1 _ _ _ (eq-eqb dates unadjusted even) (rw (sym p ∙ e) refl)
 
   pub build-checked : number ≡ 0 → Checked q closed × (dates ≡ flags)
   build-checked e = (checked q closed dates flags (sym p ∙ e), accepted q closed dates flags (sym p ∙ e) .even)
 
 -- the last steps on a part of the working lists that belongs together with what is lent
-pub finish-is : (q : Request) (closed : List ℕ) (seed tries : ℕ) (ds ds′ fs fs′ dates flags : List ℕ) → ds ≡ ds′ → fs ≡ fs′ → Lent ds fs dates flags → completed q closed seed tries ds fs (length dates) (length flags) ≡ then (keptFinish q closed seed ds′ fs′) (scheduled tries)
-finish-is q closed seed tries ds ds′ fs fs′ dates flags a b l = sym (completed-on q closed seed tries ds fs (length dates) (length flags) 0 (lent-fits l) refl) ∙ rw (a, b) refl
+pub finish-is : (q : Request) (closed : List ℕ) (seed tries : ℕ) (ds ds′ ps fs fs′ dates flags unadjusted : List ℕ) → ds ≡ ds′ → fs ≡ fs′ → Lent ds ps fs dates flags unadjusted → completed q closed seed tries ds fs (length ps) (length dates) (length flags) (length unadjusted) ≡ then (pairsOf q closed seed ds′) (mergedEntries fs′ tries)
+finish-is q closed seed tries ds ds′ ps fs fs′ dates flags unadjusted a b l = sym (completed-on q closed seed tries ds fs (length ps) (length dates) (length flags) (length unadjusted) 0 (lent-fits l) refl) ∙ rw (a, b) refl
 
 -- empty working lists, and as much room as is lent
 pub part-empty : (lent room : ℕ) (w : Work) → length (w .days) ≡ 4096 → length (w .marks) ≡ 4096 → room ≡ min lent 4096 → Part room 0 w
 part-empty lent room w a b e = record { work-size = a; marks-size = b; fits = omega arith; most = omega arith }
 
-pub lent-part : (work marks dates flags : List ℕ) (c : Piece) (end last : ℕ) → length work ≡ 4096 → length marks ≡ 4096 → end ≡ c .from + c .n → last ≡ c .marked + (c .n - 1) → Lies (length dates) c → length dates ≡ length flags → Lent (take (end - c .from) (drop (c .from) work)) (take (last - c .marked) (drop (c .marked) marks)) dates flags
-lent-part work marks dates flags c end last a b e f l k =
-    let d = part-long work (c .from) (c .n) end a e (l .dates-end) in
-    let m = part-long marks (c .marked) (c .n - 1) last b f (l .flags-end) in
-    let s = l .some in
-    let r = l .fits in
-    let t = l .dates-end in
-    record { between = omega arith; most = omega arith; fits = omega arith; even = k }
+module _ (A : ℕ → Answer ℕ) (work paid marks : List ℕ) (c : Piece) (end last : ℕ) (a : length work ≡ 4096) (e : end ≡ c .from + c .n) where
+  pub lent-part : (dates flags unadjusted : List ℕ) → length marks ≡ 4096 → last ≡ c .marked + (c .n - 1) → Laid A (length dates) (working work marks) paid c → length dates ≡ length flags → length dates ≡ length unadjusted → Lent (take (end - c .from) (drop (c .from) work)) (take (end - c .from) (drop (c .from) paid)) (take (last - c .marked) (drop (c .marked) marks)) dates flags unadjusted
+  lent-part dates flags unadjusted b f d k j =
+      let l = d .lies in
+      let m = part-long work (c .from) (c .n) end a e (l .dates-end) in
+      let n = part-long paid (c .from) (c .n) end (d .pays .size) e (l .dates-end) in
+      let o = part-long marks (c .marked) (c .n - 1) last b f (l .flags-end) in
+      let s = l .some in
+      let r = l .fits in
+      let t = l .dates-end in
+      record { between = omega arith; beside = m ∙ sym n; most = omega arith; fits = omega arith; even = k; even-third = j }
+
+  -- the known dates of the part are paid
+  pub paid-part : (room : ℕ) → Laid A room (working work marks) paid c → PaidAlready A (c .known) (c .beyond) (take (end - c .from) (drop (c .from) work)) (take (end - c .from) (drop (c .from) paid))
+  paid-part room d =
+      let k : end - c .from ≡ c .n = omega arith in
+      record { so = rw k (d .pays .so) }

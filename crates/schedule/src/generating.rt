@@ -1,8 +1,10 @@
 // The dates of a build, by the rule in force.
-ghost use Rattle.steps.specs.Generate.{zeroDates};
-ghost use Rattle.steps.specs.Fewer.Steps.{kept};
+ghost use mathlib.Core.Path.{_≡_};
+ghost use lib.ListN.{length};
+ghost use Rattle.calendar.specs.Adjust.{adjusted};
+ghost use Rattle.steps.specs.Generate.{zeroDates, generate};
 ghost use Rattle.working.specs.Part.{working, Part};
-ghost use Rattle.working.specs.Making.{Checked, Generates};
+ghost use Rattle.working.specs.Making.{Checked, Generates, Zeroed};
 use steps::Request;
 use steps::rules;
 use working::Filled;
@@ -13,7 +15,7 @@ use working::lists;
 // Zero: the effective date and termination.
 fn zero_dates(q: Request, room: usize, work: &mut [u32], marks: &mut [u8]) -> Generated
     requires { ⌜ Part room 0 (working (now work) (now marks)) ⌝ }
-    ensures { λ r. ⌜ Generates room (zeroDates q room) r (working (now (work .exit)) (now (marks .exit))) ⌝ }
+    ensures { λ r. ⌜ Zeroed room (zeroDates q room) r (working (now (work .exit)) (now (marks .exit))) ⌝ }
 {
     let n = match lists::put_two(true, room, q.termination.day, q.effective.day, work, marks) {
         Filled::Refused(k) => return Generated::Refused(k),
@@ -24,6 +26,8 @@ fn zero_dates(q: Request, room: usize, work: &mut [u32], marks: &mut [u8]) -> Ge
         from,
         marked: from,
         n,
+        known: 0,
+        beyond: 0,
         tries: 0,
         seed: 0,
     })
@@ -34,18 +38,19 @@ pub(crate) fn generate(
     closed: &[u32],
     room: usize,
     work: &mut [u32],
+    paid: &mut [u32],
     marks: &mut [u8],
 ) -> Generated
     requires { ⌜ Checked q (now closed) ⌝ }
-    requires { ⌜ Part room 0 (working (now work) (now marks)) ⌝ }
-    ensures { λ r. ⌜ Generates room (kept q (now (closed .entry)) room) r (working (now (work .exit)) (now (marks .exit))) ⌝ }
+    requires { ⌜ Part room 0 (working (now work) (now marks)) × (length (now paid) ≡ 4096) ⌝ }
+    ensures { λ r. ⌜ Generates (adjusted (q .mask) (now (closed .entry)) (q .convention)) room (generate q (now (closed .entry)) room) r (working (now (work .exit)) (now (marks .exit))) (now (paid .exit)) ⌝ }
 {
     let rule = rules::rule_in_force(q);
     if rules::is_zero(rule) {
         return zero_dates(q, room, work, marks);
     }
     if rules::is_backward(rule) {
-        return backwards::backward(q, closed, room, work, marks);
+        return backwards::backward(q, closed, room, work, paid, marks);
     }
-    forwards::forward(q, closed, room, work, marks)
+    forwards::forward(q, closed, room, work, paid, marks)
 }

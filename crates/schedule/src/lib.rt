@@ -1,15 +1,16 @@
-// Payment schedules, built in two working lists of 4,096 places.
+// Payment schedules, built in three working lists of 4,096 places.
 ghost use mathlib.Core.Path.{_≡_};
 ghost use mathlib.Core.Bool.{true};
 ghost use Prim.Native.Nat.{_+_, _-_, _≤_, min};
 ghost use lib.ListN.{length, take, drop};
 ghost use Rattle.refusal.specs.Answer.{then};
 ghost use Rattle.calendar.specs.Open.{closedOk};
-ghost use Rattle.steps.specs.Build.{Written, stepsOf, buildOf};
-ghost use Rattle.steps.specs.Fewer.Steps.{keptFinish};
+ghost use Rattle.calendar.specs.Adjust.{adjusted};
+ghost use Rattle.steps.specs.Entries.{Written, pairsOf, mergedEntries, entrySteps, entriesOf};
 ghost use Rattle.working.specs.Part.{working, Part};
-ghost use Rattle.working.specs.Making.{Checked, Lies};
-ghost use Rattle.finish.specs.Finishing.{scheduled};
+ghost use Rattle.working.specs.Making.{Checked, Laid};
+use finish::Made;
+use finish::Paid;
 use steps::Built;
 use steps::Request;
 use working::Generated;
@@ -24,68 +25,116 @@ fn least(a: usize, b: usize) -> usize
     if a < b { a } else { b }
 }
 
-// The last steps, on the n dates from a place on and the flags between them.
+// The last steps, on the n dates from a place on and the flags between them. It has nine parameters: the lists go together three by
+// three, and no struct can hold a list that is lent.
 fn finish_part(
     q: Request,
     closed: &[u32],
     piece: Piece,
     work: &mut [u32],
+    paid: &mut [u32],
     marks: &mut [u8],
     dates: &mut [u32],
     flags: &mut [u8],
+    unadjusted: &mut [u32],
 ) -> Built
     requires { ⌜ (closedOk (now closed) ≡ true) × (length (now work) ≡ 4096) × (length (now marks) ≡ 4096) ⌝ }
-    requires { ⌜ Lies (length (now dates)) piece × (length (now dates) ≡ length (now flags)) ⌝ }
-    ensures { λ r. ⌜ Written q (then (keptFinish q (now (closed .entry)) (piece .seed) (take (piece .n) (drop (piece .from) (now (work .entry)))) (take (piece .n - 1) (drop (piece .marked) (now (marks .entry))))) (scheduled (piece .tries))) r (now (dates .entry)) (now (flags .entry)) (now (dates .exit)) (now (flags .exit)) ⌝ }
+    requires { ⌜ Laid (adjusted (q .mask) (now closed) (q .convention)) (length (now dates)) (working (now work) (now marks)) (now paid) piece ⌝ }
+    requires { ⌜ (length (now dates) ≡ length (now flags)) × (length (now dates) ≡ length (now unadjusted)) ⌝ }
+    ensures { λ r. ⌜ Written q (then (pairsOf q (now (closed .entry)) (piece .seed) (take (piece .n) (drop (piece .from) (now (work .entry))))) (mergedEntries (take (piece .n - 1) (drop (piece .marked) (now (marks .entry)))) (piece .tries))) r (now (dates .entry)) (now (flags .entry)) (now (unadjusted .entry)) (now (dates .exit)) (now (flags .exit)) (now (unadjusted .exit)) ⌝ }
 {
     let from = piece.from;
     let end = from + piece.n;
     let marked = piece.marked;
     let last = marked + (piece.n - 1);
+    let made = Made {
+        seed: piece.seed,
+        tries: piece.tries,
+        paid: Paid {
+            from: piece.known,
+            to: piece.beyond,
+        },
+    };
     finish::complete(
         q,
         closed,
-        piece.seed,
-        piece.tries,
+        made,
         &mut work[from..end],
+        &mut paid[from..end],
         &mut marks[marked..last],
         dates,
         flags,
+        unadjusted,
     )
 }
 
-// The steps of a request that has passed the checks, in working lists that hold anything.
+// The steps of a request that has passed the checks, in working lists that hold anything. It has nine parameters, as the last steps.
 fn run(
     q: Request,
     closed: &[u32],
     room: usize,
     work: &mut [u32],
+    paid: &mut [u32],
     marks: &mut [u8],
     dates: &mut [u32],
     flags: &mut [u8],
+    unadjusted: &mut [u32],
 ) -> Built
     requires { ⌜ Checked q (now closed) ⌝ }
-    requires { ⌜ Part room 0 (working (now work) (now marks)) × (room ≡ min (length (now dates)) 4096) × (length (now dates) ≡ length (now flags)) ⌝ }
-    ensures { λ r. ⌜ Written q (stepsOf q (now (closed .entry)) (length (now (dates .entry)))) r (now (dates .entry)) (now (flags .entry)) (now (dates .exit)) (now (flags .exit)) ⌝ }
+    requires { ⌜ Part room 0 (working (now work) (now marks)) × (length (now paid) ≡ 4096) × (room ≡ min (length (now dates)) 4096) ⌝ }
+    requires { ⌜ (length (now dates) ≡ length (now flags)) × (length (now dates) ≡ length (now unadjusted)) ⌝ }
+    ensures { λ r. ⌜ Written q (entrySteps q (now (closed .entry)) (length (now (dates .entry)))) r (now (dates .entry)) (now (flags .entry)) (now (unadjusted .entry)) (now (dates .exit)) (now (flags .exit)) (now (unadjusted .exit)) ⌝ }
 {
-    let made = generating::generate(q, closed, room, work, marks);
+    let made = generating::generate(q, closed, room, work, paid, marks);
     match made {
         Generated::Refused(k) => steps::refused(k),
-        Generated::Ready(piece) => finish_part(q, closed, piece, work, marks, dates, flags),
+        Generated::Ready(piece) => {
+            finish_part(
+                q,
+                closed,
+                piece,
+                work,
+                paid,
+                marks,
+                dates,
+                flags,
+                unadjusted,
+            )
+        }
     }
 }
 
-// Builds a schedule: the dates into the start of one lent list, the flags of the periods between them (1 regular) into the
-// start of the other. A refusal leaves both as they were.
-pub fn build(q: Request, closed: &[u32], dates: &mut [u32], flags: &mut [u8]) -> Built
-    ensures { λ r. ⌜ Written q (buildOf q (now (closed .entry)) (length (now (dates .entry))) (length (now (flags .entry)))) r (now (dates .entry)) (now (flags .entry)) (now (dates .exit)) (now (flags .exit)) ⌝ }
+// Builds a schedule: the paid dates into the start of one lent list, the flags of the periods between them (1 regular) into the start
+// of another, the dates before adjustment into the start of the third. A refusal leaves all three as they were.
+pub fn build(
+    q: Request,
+    closed: &[u32],
+    dates: &mut [u32],
+    flags: &mut [u8],
+    unadjusted: &mut [u32],
+) -> Built
+    ensures { λ r. ⌜ Written q (entriesOf q (now (closed .entry)) (length (now (dates .entry))) (length (now (flags .entry))) (length (now (unadjusted .entry)))) r (now (dates .entry)) (now (flags .entry)) (now (unadjusted .entry)) (now (dates .exit)) (now (flags .exit)) (now (unadjusted .exit)) ⌝ }
 {
+    if dates.len() != unadjusted.len() {
+        return steps::refused(refusal::UNEVEN);
+    }
     let number = checks::input_refusal(q, closed, dates.len(), flags.len());
     if number != 0 {
         return steps::refused(number);
     }
     let room = least(dates.len(), 4096);
     let mut work = [0u32; 4096];
+    let mut paid = [0u32; 4096];
     let mut marks = [0u8; 4096];
-    run(q, closed, room, &mut work, &mut marks, dates, flags)
+    run(
+        q,
+        closed,
+        room,
+        &mut work,
+        &mut paid,
+        &mut marks,
+        dates,
+        flags,
+        unadjusted,
+    )
 }

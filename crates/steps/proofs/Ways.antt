@@ -31,7 +31,6 @@ use Rattle.steps.specs.Table.{isGiven}
 use Rattle.steps.specs.Generate.{anchorOr}
 use Rattle.steps.specs.Finish.{seedAsked, seedAtEnd}
 use Rattle.steps.specs.Build.{refusedBuilt}
-use Rattle.steps.specs.Fewer.Steps.{settles}
 
 -- ---- a `match` on a rule, with several rules to an arm
 pub arm : (f : Rule → Bool) (b : Bool) (rule : Rule) → OneOf (keysOf f b rules) (tagOf the-type rule) → b ≡ f rule
@@ -61,28 +60,6 @@ module _ (q : Request) (rule : Rule) (z : Bool) (r : rule ≡ ruleInForce q) (p 
   pub tenor-under : (b : Bool) (tenor : Period) → z ≡ b → tenor ≡ tenorUnder b (q .tenor) → tenor ≡ tenorInForce q
   unfolding tenorInForce
   tenor-under b tenor e h = let v : isZero (ruleInForce q) ≡ b = sym (ap isZero r) ∙ sym p ∙ e in rw v h
-
--- ---- whether candidates are kept as adjusted
-module _ (q : Request) where
-  pub month-ends : q .monthend ≡ true → false ≡ settles q
-  unfolding settles
-  month-ends e = rw e
-
-  module _ (e : q .monthend ≡ false) where
-    pub has-first : (q .first .day ≡ 0 → ⊥) → false ≡ settles q
-    unfolding settles
-    has-first f = rw (e, ne-eqb (q .first .day) 0 f) refl
-
-    module _ (f : q .first .day ≡ 0) where
-      pub has-penultimate : (q .penultimate .day ≡ 0 → ⊥) → false ≡ settles q
-      unfolding settles
-      has-penultimate p = rw (e, eq-eqb (q .first .day) 0 f, ne-eqb (q .penultimate .day) 0 p) refl
-
-      pub by-rule : (rule : Rule) (b : Bool) → q .penultimate .day ≡ 0 → rule ≡ ruleInForce q → b ≡ isBackward rule → b ≡ settles q
-      unfolding settles ruleInForce
-      by-rule rule b p r h = let v : b ≡ isBackward (ruleInForce q) = h ∙ ap isBackward r in rw (e, eq-eqb (q .first .day) 0 f, eq-eqb (q .penultimate .day) 0 p) v
-
-pub ruleset settling = (month-ends, has-first, has-penultimate, by-rule, needs)
 
 -- ---- the seed
 pub year-fits : (f : Fields) (day : ℕ) → day < 4294967296 → f ≡ fieldsOf day → 12 * f .year + f .month < 4294967296

@@ -1,7 +1,6 @@
--- Document 01, "Schedule steps" and "Refusal numbers": a whole build, what it answers, and what the two lent lists then hold.
+-- Document 01, "Schedule steps" and "Refusal numbers": a whole build, what it answers, and what the lists for dates and flags then hold.
 -- Assumes nothing.
 use Prim.Native.Nat.{ℕ, zero, suc, min}
-use mathlib.Core.Path.{_≡_}
 use mathlib.Core.List.{List, _++_}
 use lib.IntN.{pos}
 use lib.ListN.{length, drop}
@@ -27,7 +26,7 @@ stepsOf q closed room =
     then (finish q closed (made .seed) (made .dates) (made .flags)) (λ done.
     given (record { dates = done .dates; flags = done .flags; tries = made .tries })))
 
-unfoldable pub admitted : ℕ → (ℕ → Answer Schedule) → ℕ → Answer Schedule
+unfoldable pub admitted : {A : Type 0} → ℕ → (ℕ → Answer A) → ℕ → Answer A
 admitted zero steps room = steps room
 admitted (suc n) steps room = refused (suc n)
 
@@ -55,9 +54,3 @@ datesAfter (given s) old = over (s .dates) old
 unfoldable pub flagsAfter : Answer Schedule → List ℕ → List ℕ
 flagsAfter (refused n) old = old
 flagsAfter (given s) old = over (s .flags) old
-
--- the promise of a build
-pub record Written (q : Request) (o : Answer Schedule) (r : Built) (dates flags dates′ flags′ : List ℕ) : Type 0 where
-  pub answer : r ≡ answered q o
-  pub dates-after : dates′ ≡ datesAfter o dates
-  pub flags-after : flags′ ≡ flagsAfter o flags

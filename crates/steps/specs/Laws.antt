@@ -4,4 +4,7 @@ pub mod Rows
 pub mod Table
 pub mod Parts
 pub mod Counts
+pub mod Tries
+pub mod Grows
+pub mod Entries
 pub mod ShortEnd

@@ -6,4 +6,4 @@ pub mod Candidates
 pub mod Generate
 pub mod Finish
 pub mod Build
-pub mod Fewer
+pub mod Entries

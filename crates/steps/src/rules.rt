@@ -1,7 +1,6 @@
 // The rules' numbers, the groups of rules that the steps speak of, and the rule and the tenor in force.
 ghost use mathlib.Core.Path.{_≡_};
 ghost use Rattle.steps.specs.Rules.{ruleNumber, isZero, isBackward, onTwentieths, inImmMonths, isCredit, isOldCDS, ruleInForce, tenorInForce};
-ghost use Rattle.steps.specs.Fewer.Steps.{settles};
 use crate::Request;
 use crate::Rule;
 use crate::tenors;
@@ -106,21 +105,4 @@ pub fn tenor_in_force(q: Request) -> Period
         };
     }
     tenor
-}
-
-// Whether the loop keeps candidates as adjusted: Backward, without end of month and without anchors, where nothing later asks for
-// the candidate itself.
-pub fn settles(q: Request) -> bool
-    ensures { λ r. ⌜ r ≡ settles q ⌝ }
-{
-    if q.monthend {
-        return false;
-    }
-    if q.first.day != 0 {
-        return false;
-    }
-    if q.penultimate.day != 0 {
-        return false;
-    }
-    is_backward(rule_in_force(q))
 }

@@ -2,18 +2,21 @@
 -- Assumes nothing.
 use mathlib.Core.Path.{_≡_, refl, ap, sym, _∙_}
 use mathlib.Core.Bool.{Bool, true, false, false≢true, _&&_}
-use mathlib.Core.List.{List, [], _∷_, reverse, reverse-append}
+use mathlib.Core.List.{List, [], _∷_, _++_, reverse, reverse-append, reverse-cons, reverse-reverse}
 use Prim.Native.Nat.{ℕ, suc, _+_, _-_, _≤_, _<_}
 use native.Mathlib.Numerals.{add-one}
 use native.Mathlib.Omega.{arith}
-use lib.ListN.{length, getD, take, drop, set, length-set}
-use lib.Seq.{drop-cons, getD-set-same, drop-set-lt, take-suc, take-suc-set}
+use lib.ListN.{length, getD, take, drop, set, length-set, length-take, drop-of-length-le}
+use lib.Seq.{drop-cons, getD-set-same, drop-set-lt, take-suc, take-suc-set, length-take-le, drop-append-le}
 use lib.Dec.{eqb, ltb}
 use borrow.Author.Tests.{lt-ltb, le-ltb, ltb-true, eq-eqb, eqb-true}
 use borrow.Author.Needs.{needs}
-use Rattle.refusal.specs.Answer.{ROOM}
+use Rattle.refusal.specs.Answer.{Answer, given, ROOM}
 use Rattle.refusal.specs.Laws.Answers.{fails, holds}
 use Rattle.steps.specs.Generate.{put, hasRoom}
+use Rattle.steps.specs.Finish.{each}
+use Rattle.steps.specs.Laws.Parts.{moved-on, moved-last}
+use Rattle.working.specs.Paying.{PaidSo, Paid}
 use Rattle.working.specs.declared.Filled.the-variants.{Ready, Refused}
 use Rattle.working.specs.Step.{gives, refuses}
 use Rattle.working.specs.Part.{Work, working, Part, held, lastPut, lastDay, hasPlace, placeOf, filled, Filling}
@@ -54,6 +57,9 @@ more-back l n d s h =
     let i : 4095 - n < length (set l (4095 - n) d) = rw (length-set l (4095 - n) d) (omega arith) in
     rw e (drop-cons (set l (4095 - n) d) (4095 - n) 0 i ∙ rw (getD-set-same l (4095 - n) d 0 (omega arith), drop-set-lt (suc (4095 - n)) l (4095 - n) d (omega arith), f))
 
+front-none : (n : ℕ) (l : List ℕ) → drop n (take n l) ≡ []
+front-none n l = drop-of-length-le (take n l) {i = n} (omega (arith, length-take n l))
+
 more-forth : (l : List ℕ) (n d : ℕ) → length l ≡ 4096 → n < 4096 → reverse (take (n + 1) (set l n d)) ≡ d ∷ reverse (take n l)
 more-forth l n d s h = rw (add-one n, take-suc-set l n d (omega arith)) (reverse-append (take n l) (d ∷ []))
 
@@ -61,6 +67,39 @@ pub one-more : (back : Bool) (l : List ℕ) (n d : ℕ) → length l ≡ 4096 �
 unfolding lastPut placeOf
 one-more true l n d s h = more-back l n d s h
 one-more false l n d s h = more-forth l n d s h
+
+-- ---- the paid dates beside those of the loop
+paid-so-none : (A : ℕ → Answer ℕ) (back : Bool) (n : ℕ) (days paid : List ℕ) → PaidSo back A n n days paid
+unfolding PaidSo each
+paid-so-none A true n days paid = let z : n - n ≡ 0 = omega arith in rw z refl
+paid-so-none A false n days paid = rw (front-none n days, front-none n paid) refl
+
+pub paid-none : (A : ℕ → Answer ℕ) (back : Bool) (n : ℕ) (days paid : List ℕ) → length paid ≡ 4096 → Paid A back n n days paid
+paid-none A back n days paid s = record { size = s; order = omega arith; so = paid-so-none A back n days paid }
+
+module _ (A : ℕ → Answer ℕ) (day b : ℕ) (known : A day ≡ given b) where
+  so-more : (back : Bool) (n m : ℕ) (days days′ paid : List ℕ) → n ≤ m → m < 4096 → length days ≡ 4096 → length paid ≡ 4096 → lastPut back (m + 1) days′ ≡ day ∷ lastPut back m days → PaidSo back A n m days paid → PaidSo back A n (m + 1) days′ (set paid (placeOf back m) b)
+  unfolding PaidSo lastPut placeOf
+  so-more true n m days days′ paid o few s t put p =
+      let z : m + 1 - n ≡ suc (m - n) = omega arith in
+      rw (z, put, more-back paid m b t few) (moved-on A day b _ _ known p)
+  so-more false n m days days′ paid o few s t put p =
+      let u : take (m + 1) days′ ≡ take m days ++ (day ∷ []) =
+      sym (reverse-reverse (take (m + 1) days′)) ∙ ap reverse put ∙ reverse-cons day (reverse (take m days)) ∙ ap (λ (l : List ℕ). l ++ (day ∷ [])) (reverse-reverse (take m days)) in
+      let v : take (m + 1) (set paid m b) ≡ take m paid ++ (b ∷ []) = rw (add-one m) (take-suc-set paid m b (omega arith)) in
+      let x = length-take-le m days (omega arith) in
+      let y = length-take-le m paid (omega arith) in
+      rw (u, v, drop-append-le n (take m days) (day ∷ []) (omega arith), drop-append-le n (take m paid) (b ∷ []) (omega arith))
+      (moved-last A _ _ day b p known)
+
+pub paid-more : (A : ℕ → Answer ℕ) (back : Bool) {start n m : ℕ} (day b : ℕ) {days days′ paid paid′ : List ℕ} → length days ≡ 4096 → n < 4096 → Paid A back start n days paid → m ≡ n + 1 → A day ≡ given b → lastPut back m days′ ≡ day ∷ lastPut back n days → paid′ ≡ set paid (placeOf back n) b → Paid A back start m days′ paid′
+paid-more A back {start} {n} {m} day b {days} {days′} {paid} {paid′} s few p more known put is =
+    rw (is, more)
+    (record {
+      size = length-set paid (placeOf back n) b ∙ p .size;
+      order = let o = p .order in omega arith;
+      so = so-more A day b known back start n days days′ paid (p .order) few s (p .size) (rw more at put) (p .so);
+    })
 
 -- ---- the newest
 newest-back : (l : List ℕ) (n : ℕ) → length l ≡ 4096 → 0 < n → n ≤ 4096 → getD l (4095 - (n - 1)) 0 ≡ getD (drop (4096 - n) l) 0 0

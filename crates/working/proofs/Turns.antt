@@ -17,11 +17,9 @@ use Rattle.calendar.specs.declared.Convention.{Convention}
 use Rattle.calendar.specs.declared.search.Near.{Near}
 use Rattle.calendar.specs.Adjust.{adjusted}
 use Rattle.calendar.specs.Inner.Near.{OneMonth}
-use Rattle.calendar.specs.Laws.Stays.{adjust-again}
 use Rattle.steps.specs.declared.Pace.{Pace}
 use Rattle.steps.specs.declared.Seed.{Seed}
-use Rattle.steps.specs.Candidates.{candidate, isPast, unlessSame}
-use Rattle.steps.specs.Fewer.Steps.{unlessPastKept, turnKept}
+use Rattle.steps.specs.Candidates.{candidate, isPast, unlessSame, unlessPast, turnOf}
 use Rattle.working.specs.declared.candidates.Turn.{Turn}
 use Rattle.working.specs.declared.candidates.Turn.the-variants.{Past, Skip, Keep, Stop}
 use Rattle.working.specs.Turning.{Front, told, Learnt, Compared}
@@ -45,54 +43,44 @@ pub front-from : (mask : ℕ) (closed : List ℕ) (convention : Convention) (day
 front-from mask closed convention day a e = record { known = λ h. e }
 
 -- ---- a candidate that is not past
-module _ (settled : Bool) (mask : ℕ) (closed : List ℕ) (convention : Convention) (newest day : ℕ) where
-  pub compare-stop : (found : Dated) → dated found ≡ adjusted mask closed convention newest → (n : ℕ) → found ≡ Refused n → Compared mask closed convention newest (unlessPastKept settled false mask closed convention newest day) (Stop n)
-  unfolding unlessPastKept told Learnt
+module _ (mask : ℕ) (closed : List ℕ) (convention : Convention) (newest day : ℕ) where
+  pub compare-stop : (found : Dated) → dated found ≡ adjusted mask closed convention newest → (n : ℕ) → found ≡ Refused n → Compared mask closed convention newest (unlessPast false mask closed convention newest day) (Stop n)
+  unfolding unlessPast told Learnt
   compare-stop found p n e = record { says = then-refused _ n _ (refused-day found n _ p e); learnt = tt }
 
   module _ (held : ℕ) (known : adjusted mask closed convention newest ≡ given held) where
-    pub compare-closed : (n : ℕ) → adjusted mask closed convention day ≡ refused n → Compared mask closed convention newest (unlessPastKept settled false mask closed convention newest day) (Stop n)
-    unfolding unlessPastKept told Learnt
+    pub compare-closed : (n : ℕ) → adjusted mask closed convention day ≡ refused n → Compared mask closed convention newest (unlessPast false mask closed convention newest day) (Stop n)
+    unfolding unlessPast told Learnt
     compare-closed n e = record { says = then-given _ held _ _ known (then-refused _ n _ e); learnt = tt }
 
     module _ (b : ℕ) (near : Near) (t : adjusted mask closed convention day ≡ given b) (month : OneMonth (near .from) (near .to)) where
-      pub compare-skip : held ≡ b → Compared mask closed convention newest (unlessPastKept settled false mask closed convention newest day) (Skip (record { newest = newest; front = held; near = near }))
-      unfolding unlessPastKept told Learnt unlessSame
+      pub compare-skip : held ≡ b → Compared mask closed convention newest (unlessPast false mask closed convention newest day) (Skip (record { newest = newest; front = held; near = near }))
+      unfolding unlessPast told Learnt unlessSame
       compare-skip e =
           record {
             says = then-given _ held _ _ known (then-given _ b _ _ t (rw (eq-eqb held b e) refl));
             learnt = (record { front = front-from mask closed convention newest held known; month = month }, refl);
           }
 
-      module _ (e : held ≡ b → ⊥) where
-        pub compare-keep : settled ≡ false → Compared mask closed convention newest (unlessPastKept settled false mask closed convention newest day) (Keep (record { newest = day; front = b; near = near }))
-        unfolding unlessPastKept told Learnt unlessSame
-        compare-keep f =
-            record {
-              says = then-given _ held _ _ known (then-given _ b _ _ t (rw (ne-eqb held b e, f) refl));
-              learnt = record { front = front-from mask closed convention day b t; month = month };
-            }
-
-        -- the date kept is adjusted already
-        pub compare-settle : settled ≡ true → Compared mask closed convention newest (unlessPastKept settled false mask closed convention newest day) (Keep (record { newest = b; front = b; near = near }))
-        unfolding unlessPastKept told Learnt unlessSame
-        compare-settle f =
-            record {
-              says = then-given _ held _ _ known (then-given _ b _ _ t (rw (ne-eqb held b e, f) refl));
-              learnt = record { front = front-from mask closed convention b b (adjust-again _ convention day b t); month = month };
-            }
+      pub compare-keep : (held ≡ b → ⊥) → Compared mask closed convention newest (unlessPast false mask closed convention newest day) (Keep (record { newest = day; front = b; near = near }))
+      unfolding unlessPast told Learnt unlessSame
+      compare-keep e =
+          record {
+            says = then-given _ held _ _ known (then-given _ b _ _ t (rw (ne-eqb held b e) refl));
+            learnt = (record { front = front-from mask closed convention day b t; month = month }, t);
+          }
 
 -- ---- the k-th candidate
-module _ (settled : Bool) (mask : ℕ) (closed : List ℕ) (convention : Convention) (back : Bool) (pace : Pace) (seed : Seed) (exit newest k : ℕ) (next : Dated) (p : dated next ≡ candidate back pace seed k) where
-  pub turn-stop : (n : ℕ) → next ≡ Refused n → Compared mask closed convention newest (turnKept settled mask closed convention back pace seed exit newest k) (Stop n)
-  unfolding turnKept told Learnt
+module _ (mask : ℕ) (closed : List ℕ) (convention : Convention) (back : Bool) (pace : Pace) (seed : Seed) (exit newest k : ℕ) (next : Dated) (p : dated next ≡ candidate back pace seed k) where
+  pub turn-stop : (n : ℕ) → next ≡ Refused n → Compared mask closed convention newest (turnOf mask closed convention back pace seed exit newest k) (Stop n)
+  unfolding turnOf told Learnt
   turn-stop n e = record { says = then-refused _ n _ (refused-day next n _ p e); learnt = tt }
 
   module _ (d : Date) (e : next ≡ Day d) (b : Bool) (q : b ≡ isPast back exit (d .day)) where
-    pub turn-past : b ≡ true → Compared mask closed convention newest (turnKept settled mask closed convention back pace seed exit newest k) Past
-    unfolding turnKept told Learnt unlessPastKept
+    pub turn-past : b ≡ true → Compared mask closed convention newest (turnOf mask closed convention back pace seed exit newest k) Past
+    unfolding turnOf told Learnt unlessPast
     turn-past t = record { says = then-given _ (d .day) _ _ (given-day next d _ p e) (rw (sym q ∙ t) refl); learnt = tt }
 
-    pub turn-on : (r : Turn) → b ≡ false → Compared mask closed convention newest (unlessPastKept settled false mask closed convention newest (d .day)) r → Compared mask closed convention newest (turnKept settled mask closed convention back pace seed exit newest k) r
-    unfolding turnKept
+    pub turn-on : (r : Turn) → b ≡ false → Compared mask closed convention newest (unlessPast false mask closed convention newest (d .day)) r → Compared mask closed convention newest (turnOf mask closed convention back pace seed exit newest k) r
+    unfolding turnOf
     turn-on r t c = record { says = then-given _ (d .day) _ _ (given-day next d _ p e) (rw (sym q ∙ t) (c .says)); learnt = c .learnt }

@@ -1,12 +1,12 @@
 -- The invariant of the loop over the candidates, and a law for each way through a turn of it.
 -- Assumes nothing.
-use mathlib.Core.Path.{_≡_, refl, sym, ap, _∙_}
+use mathlib.Core.Path.{_≡_, refl, sym, ap, _∙_, subst}
 use mathlib.Core.Bool.{Bool, true, false}
-use mathlib.Core.List.{List}
+use mathlib.Core.List.{List, _∷_}
 use Prim.Native.Nat.{ℕ, suc, _+_, _-_, _≤_, _<_}
 use native.Mathlib.Numerals.{add-one}
 use native.Mathlib.Omega.{arith}
-use lib.ListN.{length}
+use lib.ListN.{length, set}
 use lib.Dec.{eqb}
 use Rattle.refusal.specs.Answer.{Answer, given, refused, then, BOOK}
 use Rattle.date.specs.Civil.{pickN}
@@ -16,8 +16,7 @@ use Rattle.calendar.specs.Open.{closedOk}
 use Rattle.calendar.specs.Adjust.{adjusted}
 use Rattle.calendar.specs.Inner.Near.{OneMonth}
 use Rattle.steps.specs.Candidates as steps
-use Rattle.steps.specs.Candidates.{candidate, isPast, unlessSame}
-use Rattle.steps.specs.Fewer.Steps.{unlessPastKept, turnKept}
+use Rattle.steps.specs.Candidates.{candidate, isPast, unlessSame, unlessPast, turnOf}
 use Rattle.steps.specs.Generate.{Lists, Walk, newest, put, onTurn, lastTry, walk}
 use Rattle.working.specs.declared.Filled.{Filled}
 use Rattle.working.specs.declared.Filled.the-variants as filled-is
@@ -29,16 +28,19 @@ use Rattle.working.specs.declared.Tip.{Tip}
 use Rattle.working.specs.Step.{seen, gives, refuses, gives-as, gives-less, was-kept}
 use Rattle.working.specs.declared.Course.{Course}
 use Rattle.working.specs.declared.candidates.Known.{Known}
-use Rattle.working.specs.Part.{Work, Part, Begun, held, lastDay, filled, Filling, Fills, begun}
-use Rattle.working.specs.Turning.{Front, Knows, told, Learnt, Compared, turnOn, Ahead, walked, Walking}
-use Rattle.working.specs.Held.{newest-read, put-is-newest}
+use Rattle.working.specs.Part.{Work, Part, Begun, held, lastPut, lastDay, placeOf, filled, Filling, Fills, begun}
+use Rattle.working.specs.Paying.{Paid}
+use Rattle.working.specs.Turning.{Front, Knows, told, Learnt, Compared, turnOn, Looped, walked, Walking}
+use Rattle.working.specs.Held.{newest-read, put-is-newest, put-dates, put-counts}
+use Rattle.working.proofs.Puts.{paid-none, paid-more}
 
 -- what is left to do from the k-th candidate on comes to the outcome o
-pub record Going (course : Course) (mask : ℕ) (closed : List ℕ) (convention : Convention) (back : Bool) (room : ℕ) (o : Answer Walk) (w : Work) (n k : ℕ) (known : Known) : Type 0 where
+pub record Going (course : Course) (mask : ℕ) (closed : List ℕ) (convention : Convention) (room start : ℕ) (o : Answer Walk) (w : Work) (paid : List ℕ) (n k : ℕ) (known : Known) : Type 0 where
   pub begun : Begun closed room n w
-  pub at : known .newest ≡ newest (held back n w)
+  pub at : known .newest ≡ newest (held (course .back) n w)
   pub knows : Knows mask closed convention known
-  pub same : walk (turnOn course mask closed convention back) room (suc SPAN-LAST - k) k (held back n w) ≡ o
+  pub pays : Paid (adjusted mask closed convention) (course .back) start n (w .days) paid
+  pub same : walk (turnOn course mask closed convention) room (suc SPAN-LAST - k) k (held (course .back) n w) ≡ o
 
 none-known : (mask : ℕ) (closed : List ℕ) (convention : Convention) (day : ℕ) → Knows mask closed convention (record { newest = day; front = 0; near = record { place = 0; from = 1; to = 0 } })
 none-known mask closed convention day =
@@ -47,98 +49,120 @@ none-known mask closed convention day =
       month = record { alike = λ a b l m h. let bad : ⊥ = omega arith in absurd bad };
     }
 
-pub going-start : (course : Course) (mask : ℕ) (closed : List ℕ) (convention : Convention) (back : Bool) (room n : ℕ) (w : Work) (day : ℕ) → (length (w .days) ≡ 4096 → n < 4097 → day ≡ lastDay back n (w .days)) → Begun closed room n w → Going course mask closed convention back room (walk (turnOn course mask closed convention back) room lastTry 1 (held back n w)) w n 1 (record { newest = day; front = 0; near = record { place = 0; from = 1; to = 0 } })
+pub going-start : (course : Course) (mask : ℕ) (closed : List ℕ) (convention : Convention) (room n : ℕ) (w : Work) (paid : List ℕ) (day : ℕ) → (length (w .days) ≡ 4096 → n < 4097 → day ≡ lastDay (course .back) n (w .days)) → Begun closed room n w × (length paid ≡ 4096) → Going course mask closed convention room n (walk (turnOn course mask closed convention) room lastTry 1 (held (course .back) n w)) w paid n 1 (record { newest = day; front = 0; near = record { place = 0; from = 1; to = 0 } })
 unfolding lastTry
-going-start course mask closed convention back room n w day at b =
-    record { begun = b; at = newest-read back day (b .part) at; knows = none-known mask closed convention day; same = refl }
+going-start course mask closed convention room n w paid day at b =
+    record {
+      begun = b .0;
+      at = newest-read (course .back) day (b .0 .part) at;
+      knows = none-known mask closed convention day;
+      pays = paid-none _ (course .back) n (w .days) paid (b .1);
+      same = refl;
+    }
 
-module _ {course : Course} {mask : ℕ} {closed : List ℕ} {convention : Convention} {back : Bool} {room : ℕ} {o : Answer Walk} {w : Work} {n k : ℕ} {known : Known} (g : Going course mask closed convention back room o w n k known) where
+module _ {course : Course} {mask : ℕ} {closed : List ℕ} {convention : Convention} {room start : ℕ} {o : Answer Walk} {w : Work} {paid : List ℕ} {n k : ℕ} {known : Known} (g : Going course mask closed convention room start o w paid n k known) where
   -- the candidates have been looked at
-  pub walk-out : SPAN-LAST < k → Walking mask closed convention back room o (Refused 2) w
+  pub walk-out : SPAN-LAST < k → Walking mask closed convention (course .back) room start o (Refused 2) w paid
   unfolding walk walked
   walk-out h =
       let a : suc SPAN-LAST - k ≡ 0 = omega arith in
       let s : refused BOOK ≡ o = rw a at (g .same) in
       refuses 2 s
 
-  module _ (few : k ≤ SPAN-LAST) (r : Turn) (turned : closedOk closed ≡ true → Knows mask closed convention known → Compared mask closed convention (known .newest) (turnOn course mask closed convention back (known .newest) k) r) where
-    t : Compared mask closed convention (known .newest) (turnOn course mask closed convention back (known .newest) k) r
+  module _ (few : k ≤ SPAN-LAST) (r : Turn) (turned : closedOk closed ≡ true → Knows mask closed convention known → Compared mask closed convention (known .newest) (turnOn course mask closed convention (known .newest) k) r) where
+    t : Compared mask closed convention (known .newest) (turnOn course mask closed convention (known .newest) k) r
     t = turned (g .begun .calendar) (g .knows)
 
-    opened : then (told r) (λ t. onTurn room t k (held back n w) (walk (turnOn course mask closed convention back) room (suc SPAN-LAST - suc k) (suc k))) ≡ o
+    opened : then (told r) (λ t. onTurn room t k (held (course .back) n w) (walk (turnOn course mask closed convention) room (suc SPAN-LAST - suc k) (suc k))) ≡ o
     unfolding walk
     opened =
         let a : suc SPAN-LAST - k ≡ suc (suc SPAN-LAST - suc k) = omega arith in
         let s = rw (a, ← g .at) at (g .same) in
         rw (t .says) s
 
-    pub walk-stop : (m : ℕ) → r ≡ Stop m → Walking mask closed convention back room o (Refused m) w
+    pub walk-stop : (m : ℕ) → r ≡ Stop m → Walking mask closed convention (course .back) room start o (Refused m) w paid
     unfolding told then walked
     walk-stop m e = refuses m (rw e at opened)
 
-    pub walk-past : r ≡ Past → Walking mask closed convention back room o (Ready (record { n = n; front = known .front }) k) w
+    pub walk-past : r ≡ Past → Walking mask closed convention (course .back) room start o (Ready (record { n = n; front = known .front }) k) w paid
     unfolding told then walked onTurn
     walk-past e =
         gives (record { n = n; front = known .front }, k) (rw e at opened)
-        (record { begun = g .begun; front = rw (g .at) at (g .knows .front) })
+        (record { ahead = record { begun = g .begun; front = rw (g .at) at (g .knows .front) }; pays = g .pays })
 
-    pub walk-skip : (next : Known) → r ≡ Skip next → Going course mask closed convention back room o w n (k + 1) next
+    pub walk-skip : (next : Known) → r ≡ Skip next → Going course mask closed convention room start o w paid n (k + 1) next
     unfolding told then onTurn Learnt
     walk-skip next e =
         let l : Learnt mask closed convention (known .newest) r = t .learnt in
         let q : Knows mask closed convention next × (next .newest ≡ known .newest) = rw e at l in
-        record { begun = g .begun; at = q .1 ∙ g .at; knows = q .0; same = rw (add-one k) (rw e at opened) }
+        record { begun = g .begun; at = q .1 ∙ g .at; knows = q .0; pays = g .pays; same = rw (add-one k) (rw e at opened) }
 
-    module _ (next : Known) (e : r ≡ Keep next) (f : Filled) (w′ : Work) (filled-so : Fills (Part room) back room (put room (next .newest) 1) n w f w′) where
-      p : Filling back room (put room (next .newest) 1 (held back n w)) f w′
+    module _ (next : Known) (e : r ≡ Keep next) (f : Filled) (w′ : Work) (filled-so : Fills (Part room) (course .back) room (put room (next .newest) 1) n w f w′) where
+      p : Filling (course .back) room (put room (next .newest) 1 (held (course .back) n w)) f w′
       p = filled-so .run (g .begun .part)
 
-      kept : then (seen (λ (m : ℕ). held back m w′) (filled f)) (walk (turnOn course mask closed convention back) room (suc SPAN-LAST - suc k) (suc k)) ≡ o
+      kept : then (seen (λ (m : ℕ). held (course .back) m w′) (filled f)) (walk (turnOn course mask closed convention) room (suc SPAN-LAST - suc k) (suc k)) ≡ o
       unfolding told then onTurn
       kept = rw (p .says) (rw e at opened)
 
-      pub walk-full : (m : ℕ) → f ≡ filled-is.Refused m → Walking mask closed convention back room o (Refused m) w′
+      pub walk-full : (m : ℕ) → f ≡ filled-is.Refused m → (paid′ : List ℕ) → Walking mask closed convention (course .back) room start o (Refused m) w′ paid′
       unfolding filled seen then walked
-      walk-full m q = refuses m (rw q at kept)
+      walk-full m q paid′ = refuses m (rw q at kept)
 
-      put-newest : (m : ℕ) → f ≡ filled-is.Ready m → newest (held back m w′) ≡ next .newest
+      put-newest : (m : ℕ) → f ≡ filled-is.Ready m → newest (held (course .back) m w′) ≡ next .newest
       unfolding filled seen
-      put-newest m q = put-is-newest room (next .newest) 1 (held back n w) (held back m w′) (rw q at (p .says))
+      put-newest m q = put-is-newest room (next .newest) 1 (held (course .back) n w) (held (course .back) m w′) (rw q at (p .says))
 
-      pub walk-keep : (m : ℕ) → f ≡ filled-is.Ready m → Going course mask closed convention back room o w′ m (k + 1) next
+      counted : (m : ℕ) → f ≡ filled-is.Ready m → m ≡ n + 1
+      unfolding filled seen
+      counted m q = put-counts (course .back) (g .begun .part) (was-kept p m (rw q) .part) (next .newest) 1 (rw q at (p .says))
+
+      put-days : (m : ℕ) → f ≡ filled-is.Ready m → lastPut (course .back) m (w′ .days) ≡ next .newest ∷ lastPut (course .back) n (w .days)
+      unfolding filled seen held
+      put-days m q = put-dates room (next .newest) 1 (held (course .back) n w) (held (course .back) m w′) (rw q at (p .says))
+
+      pub walk-keep : (m : ℕ) → f ≡ filled-is.Ready m → (paid′ : List ℕ) → (length paid ≡ 4096 → n < 4096 → paid′ ≡ set paid (placeOf (course .back) n) (next .front)) → Going course mask closed convention room start o w′ paid′ m (k + 1) next
       unfolding filled seen then Learnt
-      walk-keep m q =
+      walk-keep m q paid′ set-so =
           let l : Learnt mask closed convention (known .newest) r = t .learnt in
-          let z : Knows mask closed convention next = rw e at l in
+          let z : Knows mask closed convention next × (adjusted mask closed convention (next .newest) ≡ given (next .front)) = rw e at l in
           let h : filled f ≡ given m = rw q in
+          let part = was-kept p m h .part in
+          let few : n < 4096 = omega (arith, counted m q, part) in
           record {
             begun = begun (g .begun .calendar) (was-kept p m h);
             at = sym (put-newest m q);
-            knows = z;
+            knows = z .0;
+            pays =
+                paid-more (adjusted mask closed convention) (course .back) (next .newest) (next .front) (g .begun .part .work-size) few (g .pays) (counted m q) (z .1) (put-days m q) (set-so (g .pays .size) few);
             same = rw (add-one k) (rw q at kept);
           }
 
 -- ---- two conventions that adjust every day alike walk alike
 module _ (mask : ℕ) (closed : List ℕ) (a b : Convention) (e : adjusted mask closed a ≡ adjusted mask closed b) where
-  past-alike : (settled t : Bool) (last day : ℕ) → unlessPastKept settled t mask closed a last day ≡ unlessPastKept settled t mask closed b last day
-  unfolding unlessPastKept
-  past-alike settled true last day = refl
-  past-alike settled false last day =
-      ap (λ (f : ℕ → Answer ℕ). then (f last) (λ x. then (f day) (λ y. given (unlessSame (eqb x y) (pickN settled y day))))) e
+  past-alike : (t : Bool) (last day : ℕ) → unlessPast t mask closed a last day ≡ unlessPast t mask closed b last day
+  unfolding unlessPast
+  past-alike true last day = refl
+  past-alike false last day =
+      ap (λ (f : ℕ → Answer ℕ). then (f last) (λ x. then (f day) (λ y. given (unlessSame (eqb x y) day)))) e
 
-  turn-alike : (course : Course) (back : Bool) → turnOn course mask closed a back ≡ turnOn course mask closed b back
-  unfolding turnKept
-  turn-alike course back =
-      λ i last k. then (candidate back (course .pace) (course .seed) k) (λ day. past-alike (course .settled) (isPast back (course .exit) day) last day i)
+  turn-alike : (course : Course) → turnOn course mask closed a ≡ turnOn course mask closed b
+  unfolding turnOf
+  turn-alike course =
+      λ i last k. then (candidate (course .back) (course .pace) (course .seed) k) (λ day. past-alike (isPast (course .back) (course .exit) day) last day i)
 
-  ahead-alike : (back : Bool) (room : ℕ) (w : Work) (tip : Tip) → Ahead mask closed a back room w tip → Ahead mask closed b back room w tip
-  ahead-alike back room w tip s =
+  looped-alike : (back : Bool) (room n : ℕ) (w : Work) (paid : List ℕ) (tip : Tip) → Looped mask closed a back room n w paid tip → Looped mask closed b back room n w paid tip
+  looped-alike back room n w paid tip s =
       record {
-        begun = s .begun;
-        front = record { known = λ h. ap (λ (g : ℕ → Answer ℕ). g (newest (held back (tip .n) w))) (sym e) ∙ s .front .known h };
+        ahead =
+            record {
+              begun = s .ahead .begun;
+              front = record { known = λ h. ap (λ (g : ℕ → Answer ℕ). g (newest (held back (tip .n) w))) (sym e) ∙ s .ahead .front .known h };
+            };
+        pays = subst (λ (g : ℕ → Answer ℕ). Paid g back n (tip .n) (w .days) paid) e (s .pays);
       }
 
-  pub walk-alike : (course : Course) (back : Bool) (room fuel k : ℕ) (l : Lists) (r : Walked) (w : Work) → Walking mask closed a back room (walk (turnOn course mask closed a back) room fuel k l) r w → Walking mask closed b back room (walk (turnOn course mask closed b back) room fuel k l) r w
-  walk-alike course back room fuel k l r w g =
-      gives-as (ap (λ (f : ℕ → ℕ → Answer steps.Turn). walk f room fuel k l) (turn-alike course back))
-      (gives-less (λ t s. ahead-alike back room w (t .0) s) g)
+  pub walk-alike : (course : Course) (room start fuel k : ℕ) (l : Lists) (r : Walked) (w : Work) (paid : List ℕ) → Walking mask closed a (course .back) room start (walk (turnOn course mask closed a) room fuel k l) r w paid → Walking mask closed b (course .back) room start (walk (turnOn course mask closed b) room fuel k l) r w paid
+  walk-alike course room start fuel k l r w paid g =
+      gives-as (ap (λ (f : ℕ → ℕ → Answer steps.Turn). walk f room fuel k l) (turn-alike course))
+      (gives-less (λ t s. looped-alike (course .back) room start w paid (t .0) s) g)

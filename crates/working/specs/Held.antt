@@ -1,9 +1,9 @@
 -- Laws of the dates that stand in the working lists.
 -- Assumes nothing.
-use mathlib.Core.Path.{_≡_, refl, sym, _∙_}
+use mathlib.Core.Path.{_≡_, refl, sym, ap, _∙_}
 use mathlib.Core.Bool.{Bool, true, false}
-use mathlib.Core.List.{List, []}
-use Prim.Native.Nat.{ℕ, _-_, _≤_, _<_}
+use mathlib.Core.List.{List, [], _∷_}
+use Prim.Native.Nat.{ℕ, _+_, _-_, _≤_, _<_}
 use native.Mathlib.Omega.{arith}
 use lib.ListN.{length, take, length-drop, length-reverse, drop-of-length-le}
 use lib.Seq.{length-take-le}
@@ -20,7 +20,7 @@ put-length true l n s h = length-drop (4096 - n) l ∙ rw s (omega arith)
 put-length false l n s h = length-reverse (take n l) ∙ length-take-le n l (omega arith)
 
 module _ (back : Bool) {room n : ℕ} {w : Work} (p : Part room n w) where
-  held-length : length (held back n w .dates) ≡ n
+  pub held-length : length (held back n w .dates) ≡ n
   unfolding held
   held-length = put-length back (w .days) n (p .work-size) (omega (arith, p))
 
@@ -54,6 +54,22 @@ put-is-newest room day mark l m h =
     let w : given (onto day mark l) ≡ given m = need-given ROOM (hasRoom room l) _ m (sym h) .1 in
     let v : m ≡ onto day mark l = cc in
     rw v refl
+
+-- and the others are those of before
+pub put-dates : (room day mark : ℕ) (l m : Lists) → given m ≡ put room day mark l → m .dates ≡ day ∷ l .dates
+unfolding put
+put-dates room day mark l m h =
+    let w : given (onto day mark l) ≡ given m = need-given ROOM (hasRoom room l) _ m (sym h) .1 in
+    let v : m ≡ onto day mark l = cc in
+    rw v refl
+
+-- so there is one more
+pub put-counts : (back : Bool) {room n m : ℕ} {w w′ : Work} → Part room n w → Part room m w′ → (day mark : ℕ) → given (held back m w′) ≡ put room day mark (held back n w) → m ≡ n + 1
+put-counts back {room} {n} {m} {w} {w′} p p′ day mark h =
+    let a = held-length back p in
+    let b = held-length back p′ in
+    let c = ap length (put-dates room day mark (held back n w) (held back m w′) h) in
+    omega (arith, a, b, c)
 
 -- the day that the code read is the newest date
 pub newest-read : (back : Bool) {room n : ℕ} {w : Work} (day : ℕ) → Part room n w → (length (w .days) ≡ 4096 → n < 4097 → day ≡ lastDay back n (w .days)) → day ≡ newest (held back n w)

@@ -1,5 +1,6 @@
 pub mod Step
 pub mod Part
+pub mod Paying
 pub mod Held
 pub mod Dates
 pub mod Paces

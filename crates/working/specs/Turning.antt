@@ -1,6 +1,7 @@
 -- What the functions of the loop over the candidates answer and keep.
 -- Assumes nothing.
 use Prim.Native.Nat.{ℕ}
+use lib.ListN.{length}
 use mathlib.Core.Path.{_≡_}
 use mathlib.Core.Bool.{Bool}
 use mathlib.Core.List.{List}
@@ -10,7 +11,6 @@ use Rattle.calendar.specs.Adjust.{adjusted}
 use Rattle.calendar.specs.Inner.Near.{OneMonth}
 use Rattle.steps.specs.Candidates as steps
 use Rattle.steps.specs.Generate.{Lists, Walk, newest}
-use Rattle.steps.specs.Fewer.Steps.{turnKept}
 use Rattle.working.specs.declared.candidates.Turn.{Turn}
 use Rattle.working.specs.declared.candidates.Turn.the-variants.{Past, Skip, Keep, Stop}
 use Rattle.working.specs.declared.walks.Walked.{Walked}
@@ -20,6 +20,7 @@ use Rattle.working.specs.Step.{Gives, Step, stops, goes-on}
 use Rattle.working.specs.declared.Course.{Course}
 use Rattle.working.specs.declared.candidates.Known.{Known}
 use Rattle.working.specs.Part.{Work, Begun, held}
+use Rattle.working.specs.Paying.{Paid}
 
 -- what is known of a day's adjusted date: `front`, or nothing where that is 0
 pub record Front (mask : ℕ) (closed : List ℕ) (convention : Convention) (front day : ℕ) : Type 0 where
@@ -37,11 +38,11 @@ told (Skip next) = given steps.skip
 told (Keep next) = given (steps.keep (next .newest))
 told (Stop n) = refused n
 
--- what is known then; the newest date is the same where the candidate was skipped
+-- what is known then; the newest date is the same where the candidate was skipped, and its adjusted date is known where it was kept
 unfoldable pub Learnt : ℕ → List ℕ → Convention → ℕ → Turn → Type 0
 Learnt mask closed convention newest Past = Unit {0}
 Learnt mask closed convention newest (Skip next) = Knows mask closed convention next × (next .newest ≡ newest)
-Learnt mask closed convention newest (Keep next) = Knows mask closed convention next
+Learnt mask closed convention newest (Keep next) = Knows mask closed convention next × (adjusted mask closed convention (next .newest) ≡ given (next .front))
 Learnt mask closed convention newest (Stop n) = Unit {0}
 
 pub record Compared (mask : ℕ) (closed : List ℕ) (convention : Convention) (newest : ℕ) (o : Answer steps.Turn) (r : Turn) : Type 0 where
@@ -49,9 +50,9 @@ pub record Compared (mask : ℕ) (closed : List ℕ) (convention : Convention) (
   pub learnt : Learnt mask closed convention newest r
 
 -- a turn of the candidates of a course
-abbrev pub turnOn : Course → ℕ → List ℕ → Convention → Bool → ℕ → ℕ → Answer steps.Turn
-turnOn course mask closed convention back =
-    turnKept (course .settled) mask closed convention back (course .pace) (course .seed) (course .exit)
+abbrev pub turnOn : Course → ℕ → List ℕ → Convention → ℕ → ℕ → Answer steps.Turn
+turnOn course mask closed convention =
+    steps.turnOf mask closed convention (course .back) (course .pace) (course .seed) (course .exit)
 
 -- the lists stand, and the front is known of their newest date
 pub record Ahead (mask : ℕ) (closed : List ℕ) (convention : Convention) (back : Bool) (room : ℕ) (w : Work) (tip : Tip) : Type 0 where
@@ -63,14 +64,19 @@ unfoldable pub walked : Walked → Answer (Tip × ℕ)
 walked (Ready tip tries) = given (tip, tries)
 walked (Refused k) = refused k
 
-abbrev pub Walking : ℕ → List ℕ → Convention → Bool → ℕ → Answer Walk → Walked → Work → Type 0
-Walking mask closed convention back room o r w =
-    Gives (λ t. record { lists = held back (t .0 .n) w; tries = t .1 }) (λ t. Ahead mask closed convention back room w (t .0)) o (walked r)
+-- what the loop leaves: the lists stand, the front is known, and the dates from the n-th on are paid
+pub record Looped (mask : ℕ) (closed : List ℕ) (convention : Convention) (back : Bool) (room n : ℕ) (w : Work) (paid : List ℕ) (tip : Tip) : Type 0 where
+  pub ahead : Ahead mask closed convention back room w tip
+  pub pays : Paid (adjusted mask closed convention) back n (tip .n) (w .days) paid
+
+abbrev pub Walking : (mask : ℕ) (closed : List ℕ) (convention : Convention) (back : Bool) (room n : ℕ) (o : Answer Walk) (r : Walked) (w : Work) (paid : List ℕ) → Type 0
+Walking mask closed convention back room n o r w paid =
+    Gives (λ t. record { lists = held back (t .0 .n) w; tries = t .1 }) (λ t. Looped mask closed convention back room n w paid (t .0)) o (walked r)
 
 -- the promise of the loop on lists of n dates
-abbrev pub Walks : (mask : ℕ) (closed : List ℕ) (convention : Convention) (back : Bool) (room : ℕ) (does : Lists → Answer Walk) (n : ℕ) (w : Work) (r : Walked) (w′ : Work) → Type 0
-Walks mask closed convention back room does n w r w′ =
-    Step (Begun closed room n w) (λ t. record { lists = held back (t .0 .n) w′; tries = t .1 }) (λ t. Ahead mask closed convention back room w′ (t .0)) (does (held back n w)) (walked r)
+abbrev pub Walks : (mask : ℕ) (closed : List ℕ) (convention : Convention) (back : Bool) (room : ℕ) (does : Lists → Answer Walk) (n : ℕ) (w : Work) (paid : List ℕ) (r : Walked) (w′ : Work) (paid′ : List ℕ) → Type 0
+Walks mask closed convention back room does n w paid r w′ paid′ =
+    Step (Begun closed room n w × (length paid ≡ 4096)) (λ t. record { lists = held back (t .0 .n) w′; tries = t .1 }) (λ t. Looped mask closed convention back room n w′ paid′ (t .0)) (does (held back n w)) (walked r)
 
 -- ---- after the loop
 module _ {A D B P : Type 0} {view : Tip × ℕ → A} {Keeps : Tip × ℕ → Type 0} {view′ : D → B} {Keeps′ : D → Type 0} {o : Answer A} (f : A → Answer B) (r : Walked) {r′ : Answer D} (s : Step P view Keeps o (walked r)) where

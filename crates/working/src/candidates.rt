@@ -4,8 +4,7 @@ ghost use mathlib.Core.Bool.{true, false};
 ghost use Prim.Native.Nat.{min};
 ghost use Rattle.date.specs.Date.{dated};
 ghost use Rattle.calendar.specs.Open.{closedOk};
-ghost use Rattle.steps.specs.Candidates.{candidate, isPast};
-ghost use Rattle.steps.specs.Fewer.Steps.{unlessPastKept};
+ghost use Rattle.steps.specs.Candidates.{candidate, isPast, unlessPast};
 ghost use Rattle.working.specs.Turning.{Knows, Compared, turnOn};
 ghost use Rattle.working.specs.Paces.{pace};
 use crate::Adjusting;
@@ -91,10 +90,10 @@ fn is_past(back: bool, exit: u32, day: u32) -> bool
     if back { day < exit } else { exit < day }
 }
 
-// What a candidate does that is not past the exit date; a settled build keeps it as adjusted. The known adjusted date is taken as
-// it is, and not by a call like `front_of`, whose answer would go through memory for each candidate.
-fn compare(settled: bool, day: u32, known: Known, adjusting: Adjusting, closed: &[u32]) -> Turn
-    ensures { λ r. ⌜ (closedOk (now (closed .entry)) ≡ true → Knows (adjusting .mask) (now (closed .entry)) (adjusting .convention) known → Compared (adjusting .mask) (now (closed .entry)) (adjusting .convention) (known .newest) (unlessPastKept settled false (adjusting .mask) (now (closed .entry)) (adjusting .convention) (known .newest) day) r) ⌝ }
+// What a candidate does that is not past the exit date. The known adjusted date is taken as it is, and not by a call like
+// `front_of`, whose answer would go through memory for each candidate.
+fn compare(day: u32, known: Known, adjusting: Adjusting, closed: &[u32]) -> Turn
+    ensures { λ r. ⌜ (closedOk (now (closed .entry)) ≡ true → Knows (adjusting .mask) (now (closed .entry)) (adjusting .convention) known → Compared (adjusting .mask) (now (closed .entry)) (adjusting .convention) (known .newest) (unlessPast false (adjusting .mask) (now (closed .entry)) (adjusting .convention) (known .newest) day) r) ⌝ }
 {
     let convention = adjusting.convention;
     let newest = known.newest;
@@ -123,13 +122,6 @@ fn compare(settled: bool, day: u32, known: Known, adjusting: Adjusting, closed: 
                     near: beside,
                 });
             }
-            if settled {
-                return Turn::Keep(Known {
-                    newest: b,
-                    front: b,
-                    near: beside,
-                });
-            }
             Turn::Keep(Known {
                 newest: day,
                 front: b,
@@ -142,14 +134,14 @@ fn compare(settled: bool, day: u32, known: Known, adjusting: Adjusting, closed: 
 // What the k-th candidate does.
 pub(crate) fn try_candidate(
     course: Course,
-    back: bool,
     adjusting: Adjusting,
     closed: &[u32],
     known: Known,
     k: u32,
 ) -> Turn
-    ensures { λ r. ⌜ (closedOk (now (closed .entry)) ≡ true → Knows (adjusting .mask) (now (closed .entry)) (adjusting .convention) known → Compared (adjusting .mask) (now (closed .entry)) (adjusting .convention) (known .newest) (turnOn course (adjusting .mask) (now (closed .entry)) (adjusting .convention) back (known .newest) k) r) ⌝ }
+    ensures { λ r. ⌜ (closedOk (now (closed .entry)) ≡ true → Knows (adjusting .mask) (now (closed .entry)) (adjusting .convention) known → Compared (adjusting .mask) (now (closed .entry)) (adjusting .convention) (known .newest) (turnOn course (adjusting .mask) (now (closed .entry)) (adjusting .convention) (known .newest) k) r) ⌝ }
 {
+    let back = course.back;
     let pace = course.pace;
     let seed = course.seed;
     let next = candidate(back, pace, seed, k);
@@ -159,7 +151,7 @@ pub(crate) fn try_candidate(
             if is_past(back, course.exit, d.day) {
                 return Turn::Past;
             }
-            compare(course.settled, d.day, known, adjusting, closed)
+            compare(d.day, known, adjusting, closed)
         }
     }
 }

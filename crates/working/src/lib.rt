@@ -1,4 +1,4 @@
-// The two working lists of a build, and the loop over the candidates that fills them. On lists and calendars that are not
+// The working lists of a build, and the loop over the candidates that fills them. On lists and calendars that are not
 // as a build makes them, each function answers something; what it promises holds under the premises that it names.
 
 use calendar::Convention;
@@ -20,9 +20,9 @@ pub struct Adjusting {
     pub mask: u8,
 }
 
-// The candidates that a loop looks at: whole tenors from a seed on up to an exit date, kept as adjusted in a settled build.
+// The candidates that a loop looks at: whole tenors back or on from a seed, up to an exit date.
 pub struct Course {
-    pub settled: bool,
+    pub back: bool,
     pub pace: Pace,
     pub seed: Seed,
     pub exit: u32,
@@ -34,6 +34,13 @@ pub struct Tip {
     pub front: u32,
 }
 
+// A loop that has ended: how many dates stood before it, the tries, and the seed that its candidates were counted from.
+pub struct Round {
+    pub start: usize,
+    pub tries: u32,
+    pub seed: u32,
+}
+
 // How many dates there are after a date was put, or why it was not.
 pub enum Filled {
     Ready(usize),
@@ -41,10 +48,13 @@ pub enum Filled {
 }
 
 // A part of the working lists: n dates from a place on, and the flags between them from another place on; with the tries and the seed.
+// Those from the `known`-th up to the `beyond`-th, the dates of the loop, have their paid dates beside them.
 pub struct Piece {
     pub from: usize,
     pub marked: usize,
     pub n: usize,
+    pub known: usize,
+    pub beyond: usize,
     pub tries: u32,
     pub seed: u32,
 }

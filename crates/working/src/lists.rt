@@ -1,7 +1,8 @@
-// The two working lists, dates and marks: filled from the far end in backward builds, from the near end in others.
+// The working lists, dates and marks, and the paid dates beside the dates of the loop: filled from the far end in backward builds, from
+// the near end in others.
 ghost use mathlib.Core.Path.{_≡_};
-ghost use Prim.Native.Nat.{_<_};
-ghost use lib.ListN.{length};
+ghost use Prim.Native.Nat.{_-_, _<_};
+ghost use lib.ListN.{length, set};
 ghost use Rattle.refusal.specs.Answer.{then};
 ghost use Rattle.steps.specs.Generate.{nothing, put};
 ghost use Rattle.working.specs.Part.{working, Part, lastDay, hasPlace, placeOf, Fills};
@@ -23,6 +24,13 @@ fn place_of(back: bool, n: usize) -> usize
     ensures { λ r. ⌜ (r ≡ placeOf back n) × (r < 4096) ⌝ }
 {
     if back { 4095 - n } else { n }
+}
+
+// How many more a is than b; 0 where it is not more.
+pub fn surplus(a: usize, b: usize) -> usize
+    ensures { λ r. ⌜ r ≡ a - b ⌝ }
+{
+    if a < b { 0 } else { a - b }
 }
 
 // The date that was put last; 0 where there is none.
@@ -61,6 +69,16 @@ pub fn put(
         return Filled::Ready(n + 1);
     }
     Filled::Refused(refusal::ROOM)
+}
+
+// The paid date of what is put behind the n that are there.
+pub fn pay(back: bool, n: usize, day: u32, paid: &mut [u32])
+    ensures { λ _. ⌜ (length (now (paid .entry)) ≡ 4096 → n < 4096 → now (paid .exit) ≡ set (now (paid .entry)) (placeOf back n) day) ⌝ }
+{
+    if has_place(n, paid.len(), paid.len()) {
+        let at = place_of(back, n);
+        paid[at] = day;
+    }
 }
 
 // The first date of a list.

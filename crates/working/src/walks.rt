@@ -20,20 +20,21 @@ pub enum Walked {
     Refused(u8),
 }
 
-// Candidates are put behind the `start` dates that are there, as adjusted in a settled build, up to the first beyond the exit
+// Candidates are put behind the `start` dates that are there, and their adjusted dates into `paid`, up to the first beyond the exit
 // date. No candidate beyond the number of the span's last day is a day of it, so 2 is what the loop would meet there.
 pub fn walk(
     course: Course,
-    back: bool,
     room: usize,
     adjusting: Adjusting,
     closed: &[u32],
     start: usize,
     work: &mut [u32],
+    paid: &mut [u32],
     marks: &mut [u8],
 ) -> Walked
-    ensures { λ r. ⌜ Walks (adjusting .mask) (now (closed .entry)) (adjusting .convention) back room (walk (turnOn course (adjusting .mask) (now (closed .entry)) (adjusting .convention) back) room lastTry 1) start (working (now (work .entry)) (now (marks .entry))) r (working (now (work .exit)) (now (marks .exit))) ⌝ }
+    ensures { λ r. ⌜ Walks (adjusting .mask) (now (closed .entry)) (adjusting .convention) (course .back) room (walk (turnOn course (adjusting .mask) (now (closed .entry)) (adjusting .convention)) room lastTry 1) start (working (now (work .entry)) (now (marks .entry))) (now (paid .entry)) r (working (now (work .exit)) (now (marks .exit))) (now (paid .exit)) ⌝ }
 {
+    let back = course.back;
     let convention = adjusting.convention;
     let mask = adjusting.mask;
     let way = Adjusting {
@@ -48,7 +49,7 @@ pub fn walk(
         near: Near::NOTHING,
     };
     while k <= span::LAST {
-        let t = candidates::try_candidate(course, back, way, closed, known, k);
+        let t = candidates::try_candidate(course, way, closed, known, k);
         match t {
             Turn::Stop(r) => {
                 return Walked::Refused(r);
@@ -73,6 +74,7 @@ pub fn walk(
                         return Walked::Refused(r);
                     }
                     Filled::Ready(m) => {
+                        lists::pay(back, n, next.front, paid);
                         n = m;
                         known = next;
                         k += 1;

@@ -1,7 +1,7 @@
 -- `backwards::backward` meets its contract.
 -- Assumes nothing.
 use mathlib.Core.Path.{_∙_}
-use Rattle.steps.specs.Fewer.Steps.{keptBackward}
+use Rattle.steps.specs.Generate.{backward}
 use Rattle.working.specs.Step.{step-as}
 use Rattle.working.specs.Part.{filled-stops, filled-on, begun}
 use Rattle.working.specs.Paces.{pace-checked}
@@ -36,7 +36,7 @@ same-length-2 : tie.Need-same-length-2
 same-length-2 c = search needs
 
 returns : tie.Need-returns
-unfolding keptBackward
+unfolding backward
 returns c =
     let stop : tie.After-k = search in
     let one : tie.After-begin = search in
@@ -56,15 +56,18 @@ same-length-3 c = search needs
 same-length-4 : tie.Need-same-length-4
 same-length-4 c = search needs
 
+same-length-5 : tie.Need-same-length-5
+same-length-5 c = search needs
+
 returns-2 : tie.Need-returns-2
-unfolding keptBackward
+unfolding backward
 returns-2 c =
     let rest : tie.After-backward-from = search in
     let ready : tie.After-n = search in
     let one : tie.After-begin = search in
     let seed : tie.After-seed-of = search in
     let pace : tie.After-pace-of = search in
-    record { run = λ b. filled-on _ _ (step-as (begun-is _ _ _ _ (pace .pace-of .ensures ∙ pace-checked _ (b .checked .tenor)) (seed .seed-of .ensures)) (one .begin .ensures)) _ (ready .n .given .1) (b .part) (λ p. rest .backward-from .ensures .run (pace .pace-of .ensures ∙ pace-checked _ (b .checked .tenor), begun (b .checked .calendar) p)) }
+    record { run = λ b. filled-on _ _ (step-as (begun-is _ _ _ _ (pace .pace-of .ensures ∙ pace-checked _ (b .checked .tenor)) (seed .seed-of .ensures)) (one .begin .ensures)) _ (ready .n .given .1) (b .part) (λ p. rest .backward-from .ensures .run (pace .pace-of .ensures ∙ pace-checked _ (b .checked .tenor), (begun (b .checked .calendar) p, b .paid-size))) }
 
 pub backward-spec : {M : Type 1} → statement M
 backward-spec =
@@ -81,4 +84,5 @@ backward-spec =
     backward-from-requires
     same-length-3
     same-length-4
+    same-length-5
     returns-2)

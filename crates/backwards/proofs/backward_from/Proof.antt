@@ -1,9 +1,9 @@
 -- `backwards::backward_from` meets its contract.
 -- Assumes nothing.
-use Rattle.steps.specs.Fewer.Steps.{keptFrom}
+use Rattle.steps.specs.Generate.{backwardFrom}
 use Rattle.working.specs.Step.{step-as}
 use Rattle.working.specs.Turning.{walked-stops, walked-on}
-use Rattle.working.specs.Making.{generated-is-refused}
+use Rattle.working.specs.Making.{generated-is-refused, back-laid}
 use Rattle.working.specs.Loops.{loop-is}
 use Rattle.backwards.proofs.Backing.{back-end-seed}
 use borrow.Author.Needs.{needs}
@@ -11,23 +11,19 @@ use Rattle.backwards.proofs.backward_from.Statement.{statement}
 use Rattle.backwards.proofs.backward_from.Tie as tie
 use Rattle.backwards.proofs.backward_from.Reads as reads
 use Rattle.backwards.proofs.backward_from.Lts as lts
-use Rattle.steps.proofs.seeds.anchor_or.Reads as anchor-or-reads
 use Rattle.backwards.proofs.ending.backward_end.Reads as backward-end-reads
-use Rattle.steps.proofs.rules.settles.Reads as settles-reads
+use Rattle.steps.proofs.seeds.anchor_or.Reads as anchor-or-reads
 use Rattle.steps.proofs.seeds.seed_of.Reads as seed-of-reads
 use Rattle.working.proofs.walks.walk.Reads as walk-reads
 
 anchor-or-requires : tie.Need-anchor-or-requires
 anchor-or-requires c κs = search needs
 
-anchor-or-requires-2 : tie.Need-anchor-or-requires-2
-anchor-or-requires-2 c κs = search needs
-
 seed-of-requires : tie.Need-seed-of-requires
 seed-of-requires c κs = search needs
 
-settles-requires : tie.Need-settles-requires
-settles-requires c κs = search needs
+anchor-or-requires-2 : tie.Need-anchor-or-requires-2
+anchor-or-requires-2 c κs = search needs
 
 walk-requires : tie.Need-walk-requires
 walk-requires c κs = search needs
@@ -47,43 +43,46 @@ same-length c = search needs
 same-length-2 : tie.Need-same-length-2
 same-length-2 c = search needs
 
+same-length-3 : tie.Need-same-length-3
+same-length-3 c = search needs
+
 returns : tie.Need-returns
-unfolding keptFrom
+unfolding backwardFrom
 returns c =
     let stop : tie.After-walked = search in
     let loop : tie.After-walk = search in
-    let kept : tie.After-settles = search in
-    let seed : tie.After-seed-of = search in
     let exit : tie.After-anchor-or2 = search in
+    let seed : tie.After-seed-of = search in
     let day : tie.After-anchor-or = search in
     let start : tie.Start = search in
-    record { run = λ h. walked-stops _ _ (step-as (loop-is (start .args .q) _ _ _ _ _ _ _ _ _ _ _ _ (kept .settles .ensures) (h .0) (seed .seed-of .ensures) (day .anchor-or .ensures) (exit .anchor-or2 .ensures)) (loop .walk .ensures)) _ (stop .walked .given .1) (h .1) (generated-is-refused _) }
-
-same-length-3 : tie.Need-same-length-3
-same-length-3 c = search needs
+    record { run = λ h. walked-stops _ _ (step-as (loop-is (start .args .q) _ _ _ _ _ _ _ _ _ _ (h .0) (seed .seed-of .ensures) (day .anchor-or .ensures) (exit .anchor-or2 .ensures)) (loop .walk .ensures)) _ (stop .walked .given .1) (h .1) (generated-is-refused _) }
 
 same-length-4 : tie.Need-same-length-4
 same-length-4 c = search needs
 
+same-length-5 : tie.Need-same-length-5
+same-length-5 c = search needs
+
+same-length-6 : tie.Need-same-length-6
+same-length-6 c = search needs
+
 returns-2 : tie.Need-returns-2
-unfolding keptFrom
+unfolding backwardFrom
 returns-2 c =
     let end : tie.After-backward-end = search in
     let ready : tie.After-walked2 = search in
     let loop : tie.After-walk = search in
-    let kept : tie.After-settles = search in
-    let seed : tie.After-seed-of = search in
     let exit : tie.After-anchor-or2 = search in
+    let seed : tie.After-seed-of = search in
     let day : tie.After-anchor-or = search in
     let start : tie.Start = search in
-    record { run = λ h. walked-on _ _ (step-as (loop-is (start .args .q) _ _ _ _ _ _ _ _ _ _ _ _ (kept .settles .ensures) (h .0) (seed .seed-of .ensures) (day .anchor-or .ensures) (exit .anchor-or2 .ensures)) (loop .walk .ensures)) _ _ (ready .walked2 .given .1) (h .1) (λ a. back-end-seed _ _ _ _ _ _ _ (day .anchor-or .ensures) (end .backward-end .ensures .run a)) }
+    record { run = λ h. walked-on _ _ (step-as (loop-is (start .args .q) _ _ _ _ _ _ _ _ _ _ (h .0) (seed .seed-of .ensures) (day .anchor-or .ensures) (exit .anchor-or2 .ensures)) (loop .walk .ensures)) _ _ (ready .walked2 .given .1) (h .1) (λ a. back-end-seed _ _ _ _ _ _ _ (day .anchor-or .ensures) (back-laid _ _ _ _ _ _ _ _ (a .ahead .begun .part) (a .pays) (end .backward-end .ensures .run (a .ahead)))) }
 
 pub backward-from-spec : {M : Type 1} → statement M
 backward-from-spec =
     tie.close
     (tie.spec
     anchor-or-requires
-    settles-requires
     seed-of-requires
     anchor-or-requires-2
     walk-requires
@@ -92,7 +91,9 @@ backward-from-spec =
     backward-end-requires
     same-length
     same-length-2
-    returns
     same-length-3
+    returns
     same-length-4
+    same-length-5
+    same-length-6
     returns-2)

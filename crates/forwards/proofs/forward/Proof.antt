@@ -2,8 +2,8 @@
 -- Assumes nothing.
 use Rattle.steps.specs.Generate.{forward}
 use Rattle.working.specs.Part.{begun}
-use Rattle.opening.specs.Opening.{opened-stops, opened-on}
 use Rattle.working.specs.Making.{generated-is-refused}
+use Rattle.opening.specs.Opening.{opened-stops, opened-on}
 use borrow.Author.Needs.{needs}
 use Rattle.forwards.proofs.forward.Statement.{statement}
 use Rattle.forwards.proofs.forward.Tie as tie
@@ -43,13 +43,16 @@ same-length-3 c = search needs
 same-length-4 : tie.Need-same-length-4
 same-length-4 c = search needs
 
+same-length-5 : tie.Need-same-length-5
+same-length-5 c = search needs
+
 returns-2 : tie.Need-returns-2
 unfolding forward
 returns-2 c =
     let rest : tie.After-forward-from = search in
     let ready : tie.After-opened2 = search in
     let opened : tie.After-open-forward = search in
-    record { run = λ b. opened-on _ _ (opened .open-forward .ensures) _ _ (ready .opened2 .given .1) (record { calendar = b .checked .calendar; part = b .part }) (λ p. rest .forward-from .ensures .run (b .checked, begun (b .checked .calendar) p)) }
+    record { run = λ b. opened-on _ _ (opened .open-forward .ensures) _ _ (ready .opened2 .given .1) (record { calendar = b .checked .calendar; part = b .part }) (λ p. rest .forward-from .ensures .run (b .checked, (begun (b .checked .calendar) p, b .paid-size))) }
 
 pub forward-spec : {M : Type 1} → statement M
 forward-spec =
@@ -64,4 +67,5 @@ forward-spec =
     returns
     same-length-3
     same-length-4
+    same-length-5
     returns-2)

@@ -9,8 +9,8 @@ use Rattle.heronspan.proofs.main.Tie as tie
 large-buffer-requires : tie.Need-large-buffer-requires
 large-buffer-requires c κs = search needs
 
-large-buffer-requires-2 : tie.Need-large-buffer-requires-2
-large-buffer-requires-2 c κs = search needs
+text-room-requires : tie.Need-text-room-requires
+text-room-requires c κs = search needs
 
 slice-aggregate-read-full : tie.Need-slice-aggregate-read-full
 slice-aggregate-read-full c = search needs
@@ -21,20 +21,19 @@ read-full-requires c κs = search needs
 array-share-prefix-input : tie.Need-array-share-prefix-input
 array-share-prefix-input c = search needs
 
-slice-aggregate-answer : tie.Need-slice-aggregate-answer
-slice-aggregate-answer c = search needs
+slice-aggregate-whole : tie.Need-slice-aggregate-whole
+slice-aggregate-whole c = search needs
 
-slice-aggregate-answer-2 : tie.Need-slice-aggregate-answer-2
-slice-aggregate-answer-2 c = search needs
-
-answer-requires : tie.Need-answer-requires
-answer-requires c κs = search needs
+whole-requires : tie.Need-whole-requires
+whole-requires c κs = search needs
 
 array-share-prefix-text : tie.Need-array-share-prefix-text
-array-share-prefix-text c = c .before .answer .ensures .within
+array-share-prefix-text c = search needs
 
 slice-aggregate-write-all : tie.Need-slice-aggregate-write-all
-slice-aggregate-write-all c = sym (length-take-le _ _ (c .before .before .answer .ensures .within))
+slice-aggregate-write-all c =
+    let whole : tie.After-whole = search in
+    sym (length-take-le _ _ (whole .whole .ensures .within))
 
 write-all-requires : tie.Need-write-all-requires
 write-all-requires c κs = search needs
@@ -47,13 +46,12 @@ main-spec =
     tie.close
     (tie.spec
     large-buffer-requires
-    large-buffer-requires-2
+    text-room-requires
     slice-aggregate-read-full
     read-full-requires
     array-share-prefix-input
-    slice-aggregate-answer
-    slice-aggregate-answer-2
-    answer-requires
+    slice-aggregate-whole
+    whole-requires
     array-share-prefix-text
     slice-aggregate-write-all
     write-all-requires

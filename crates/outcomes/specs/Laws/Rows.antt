@@ -19,7 +19,7 @@ use Rattle.outcomes.specs.Laws.Generating.{Passed, passed, generate-fine
 use Rattle.outcomes.specs.NoLimit.{stepsIn, steps-cut}
 
 -- ---- a test that each number of a table passes is passed by that of the first row that holds
-eachNumber : (ℕ → Bool) → List ℕ → Bool
+unfoldable pub eachNumber : (ℕ → Bool) → List ℕ → Bool
 eachNumber p [] = true
 eachNumber p (n ∷ ns) = p n && eachNumber p ns
 
@@ -28,7 +28,7 @@ unfolding numberOr
 first-go p true n first e again h = e
 first-go p false n first e again h = again h
 
-first-passes : (p : ℕ → Bool) (rows : List Row) → eachNumber p (numbers rows) ≡ true → (firstRow rows ≡ 0 → ⊥) → p (firstRow rows) ≡ true
+pub first-passes : (p : ℕ → Bool) (rows : List Row) → eachNumber p (numbers rows) ≡ true → (firstRow rows ≡ 0 → ⊥) → p (firstRow rows) ≡ true
 unfolding firstRow eachNumber numbers
 first-passes p [] e h = absurd (h refl)
 first-passes p (r ∷ rows) e h =

@@ -1,14 +1,13 @@
 -- The steps after generating leave an ascending list of days of the span as it is, where nothing is adjusted.
 -- Assumes nothing.
 use Prim.Native.Nat.{ℕ, zero, suc, _+_, _-_, _≤_, _<_}
-use mathlib.Core.Path.{_≡_, refl, ap, sym, _∙_}
+use mathlib.Core.Path.{_≡_, refl, ap, sym}
 use mathlib.Core.Logic.{inl, inr, ⊎-elim}
 use mathlib.Core.Bool.{Bool, true, false, false≢true, _&&_}
-use mathlib.Core.List.{List, [], _∷_, _++_}
-use native.Mathlib.Nat.{not-suc-le-zero, sub-zero, suc-sub-suc}
+use mathlib.Core.List.{List, [], _∷_}
 use native.Mathlib.Omega.{arith}
 use lib.Dec.{leb}
-use lib.ListN.{length, getD, take, drop, take-append-drop}
+use lib.ListN.{length, getD, take, drop}
 use borrow.Author.Tests.{lt-leb}
 use Rattle.refusal.specs.Answer.{Answer, given, then}
 use Rattle.calendar.specs.declared.Convention.the-variants.{Unadjusted}
@@ -17,6 +16,7 @@ use Rattle.steps.specs.declared.Move.the-variants.{Adjust}
 use Rattle.steps.specs.declared.Request.{Request}
 use Rattle.steps.specs.Rules.{ruleNumber, oneOf, ruleInForce, isOldCDS, isCredit}
 use Rattle.steps.specs.Finish.{moved, each, between, onFirst, onLast, onMiddle, wednesdaysBy, wednesdays, unless, firstMove, lastMove, middleMove, seedAtEnd, adjustments, meetAtEnd, mergeEndIf, mergeEnd, meetAtFront, mergeFrontIf, mergeFront, finish}
+use Rattle.steps.specs.Laws.Parts.{in-parts}
 use Rattle.outcomes.specs.Laws.Span.{le-or-lt, InSpan}
 use Rattle.plain.specs.Listed.{_∈_, Ascending, ascending-at}
 use Rattle.plain.specs.Laws.Turns.{stays}
@@ -33,22 +33,6 @@ in-drop zero d ds h = h
 in-drop (suc k) d [] h = h
 in-drop (suc k) d (x ∷ xs) h = inr (in-drop k d xs h)
 
-drop-none : (k : ℕ) → _≡_ {A = List ℕ} (drop k []) []
-drop-none zero = refl
-drop-none (suc k) = refl
-
-drop-on : (a b : ℕ) (ds : List ℕ) → a ≤ b → drop (b - a) (drop a ds) ≡ drop b ds
-drop-on zero b ds h = ap (λ (k : ℕ). drop k ds) (sub-zero b)
-drop-on (suc a) zero ds h = absurd (not-suc-le-zero h)
-drop-on (suc a) (suc b) [] h = drop-none (suc b - suc a)
-drop-on (suc a) (suc b) (x ∷ xs) h = ap (λ (k : ℕ). drop k (drop a xs)) (suc-sub-suc b a) ∙ drop-on a b xs (omega arith)
-
-parts : (a b : ℕ) (ds : List ℕ) → a ≤ b → take a ds ++ (take (b - a) (drop a ds) ++ drop b ds) ≡ ds
-parts a b ds h =
-    ap (λ (xs : List ℕ). take a ds ++ (take (b - a) (drop a ds) ++ xs)) (sym (drop-on a b ds h))
-    ∙ ap (λ (xs : List ℕ). take a ds ++ xs) (take-append-drop (b - a) (drop a ds))
-    ∙ take-append-drop a ds
-
 -- ---- dates that do not move
 each-same : (f : ℕ → Answer ℕ) (ds : List ℕ) → ((d : ℕ) → d ∈ ds → f d ≡ given d) → each f ds ≡ given ds
 unfolding each then
@@ -59,7 +43,7 @@ between-same : (f : ℕ → Answer ℕ) (a b : ℕ) (ds : List ℕ) → a ≤ b 
 unfolding between then
 between-same f a b ds h s =
     rw (each-same f (take (b - a) (drop a ds)) (λ d i. s d (in-drop a d ds (in-take (b - a) d (drop a ds) i))))
-    (ap given (parts a b ds h))
+    (ap given (in-parts a b ds h))
 
 module _ (f : ℕ → Answer ℕ) (ds : List ℕ) (s : (d : ℕ) → d ∈ ds → f d ≡ given d) where
   pub first-same : onFirst f ds ≡ given ds

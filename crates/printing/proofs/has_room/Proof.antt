@@ -8,11 +8,14 @@ use Rattle.printing.proofs.has_room.Tie as tie
 returns : tie.Need-returns
 returns c = search ways
 
-add-result : tie.Need-add-result
-add-result c = search needs
+add-fitting : tie.Need-add-fitting
+add-fitting c = search needs
 
 returns-2 : tie.Need-returns-2
 returns-2 c = search ways
 
+returns-3 : tie.Need-returns-3
+returns-3 c = search ways
+
 pub has-room-spec : {M : Type 1} → statement M
-has-room-spec = tie.close (tie.spec returns add-result returns-2)
+has-room-spec = tie.close (tie.spec returns add-fitting returns-2 returns-3)

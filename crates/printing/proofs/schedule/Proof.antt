@@ -17,6 +17,9 @@ slice-aggregate-spell-2 c = search needs
 spell-requires-2 : tie.Need-spell-requires-2
 spell-requires-2 c κs = search needs
 
+count-differing-requires : tie.Need-count-differing-requires
+count-differing-requires c κs = search needs
+
 sub-has-room : tie.Need-sub-has-room
 sub-has-room c = search needs
 
@@ -48,20 +51,22 @@ put-header-requires : tie.Need-put-header-requires
 put-header-requires c κs =
     let then1 : tie.Then1 = search in
     let has-room : tie.After-has-room = search in
+    let count-differing : tie.After-count-differing = search in
     let spell2 : tie.After-spell2 = search in
     let spell : tie.After-spell = search in
     let start : tie.Start = search in
-    header-room (start .args .dates .now) (start .args .flags .now) (spell .spell .ensures) (spell2 .spell2 .ensures) _ (start .args .out .now) (has-room .has-room .ensures) (then1 .if1 .taken)
+    header-room (start .args .dates .now) (start .args .flags .now) (start .args .unadjusted .now) (spell .spell .ensures) (spell2 .spell2 .ensures) _ (count-differing .count-differing .ensures) _ (start .args .out .now) (has-room .has-room .ensures) (then1 .if1 .taken)
 
 put-lines-requires : tie.Need-put-lines-requires
 put-lines-requires c κs =
     let put-header : tie.After-put-header = search in
     let then1 : tie.Then1 = search in
     let has-room : tie.After-has-room = search in
+    let count-differing : tie.After-count-differing = search in
     let spell2 : tie.After-spell2 = search in
     let spell : tie.After-spell = search in
     let start : tie.Start = search in
-    lines-room (start .args .dates .now) (start .args .flags .now) (spell .spell .ensures) (spell2 .spell2 .ensures) _ (has-room .has-room .ensures) (then1 .if1 .taken) (put-header .put-header .ensures)
+    lines-room (start .args .dates .now) (start .args .flags .now) (start .args .unadjusted .now) (spell .spell .ensures) (spell2 .spell2 .ensures) _ (count-differing .count-differing .ensures) _ (start .args .out .now) (has-room .has-room .ensures) (then1 .if1 .taken) (put-header .put-header .ensures)
 
 same-length : tie.Need-same-length
 same-length c = search needs
@@ -72,15 +77,17 @@ returns c =
     let put-header : tie.After-put-header = search in
     let then1 : tie.Then1 = search in
     let has-room : tie.After-has-room = search in
+    let count-differing : tie.After-count-differing = search in
     let spell2 : tie.After-spell2 = search in
     let spell : tie.After-spell = search in
-    schedule-put _ _ (spell .spell .ensures) (spell2 .spell2 .ensures) _ (has-room .has-room .ensures) (then1 .if1 .taken) (put-header .put-header .ensures) (put-lines .put-lines .ensures)
+    schedule-put _ _ _ (spell .spell .ensures) (spell2 .spell2 .ensures) _ (count-differing .count-differing .ensures) _ _ (has-room .has-room .ensures) (then1 .if1 .taken) (put-header .put-header .ensures) (put-lines .put-lines .ensures)
 
 returns-2 : tie.Need-returns-2
 returns-2 c =
+    let count-differing : tie.After-count-differing = search in
     let spell2 : tie.After-spell2 = search in
     let spell : tie.After-spell = search in
-    schedule-none _ _ (spell .spell .ensures) (spell2 .spell2 .ensures) _ _ (c .before .has-room .ensures) (c .if1 .left)
+    schedule-none _ _ _ (spell .spell .ensures) (spell2 .spell2 .ensures) _ (count-differing .count-differing .ensures) _ _ (c .before .has-room .ensures) (c .if1 .left)
 
 pub schedule-spec : {M : Type 1} → statement M
 schedule-spec =
@@ -90,6 +97,7 @@ schedule-spec =
     spell-requires
     slice-aggregate-spell-2
     spell-requires-2
+    count-differing-requires
     sub-has-room
     sub-has-room-2
     has-room-requires

@@ -17,7 +17,7 @@ minus-requires : tie.Need-minus-requires
 minus-requires c κs = search needs
 
 returns : tie.Need-returns
-returns c = reported-short _ _ _ _ _ (c .minus .ok) (c .before .if1 .taken) (c .minus .ensures)
+returns c = reported-short _ _ _ _ _ _ (c .minus .ok) (c .before .if1 .taken) (c .minus .ensures)
 
 enum-known-request : tie.Need-enum-known-request
 enum-known-request c = search needs
@@ -46,17 +46,20 @@ same-length-2 c = search needs
 same-length-3 : tie.Need-same-length-3
 same-length-3 c = search needs
 
+same-length-4 : tie.Need-same-length-4
+same-length-4 c = search needs
+
 returns-2 : tie.Need-returns-2
 returns-2 c =
     let told : tie.After-report = search in
     let built : tie.After-build = search in
     let request : tie.After-request = search in
     let room : tie.Else1 = search in
-    reported-built _ _ _ _ _ (told .report .ok) (room .if1 .left) _ _ (told .report .ensures .0) (told .report .ensures .1)
-    _ _ _ (request-named refl _ (request .request .given .1)) (built .build .ensures)
+    reported-built _ _ _ _ _ _ (told .report .ok) (room .if1 .left) _ _ (told .report .ensures .0) (told .report .ensures .1)
+    _ _ _ _ (request-named refl _ (request .request .given .1)) (built .build .ensures)
 
-same-length-4 : tie.Need-same-length-4
-same-length-4 c = search needs
+same-length-5 : tie.Need-same-length-5
+same-length-5 c = search needs
 
 returns-3 : tie.Need-returns-3
 returns-3 c =
@@ -64,7 +67,7 @@ returns-3 c =
     let refusal : tie.After-refused = search in
     let request : tie.After-request2 = search in
     let room : tie.Else1 = search in
-    reported-refused _ _ _ _ _ (told .report2 .ok) (room .if1 .left) _ _ (told .report2 .ensures .0) (told .report2 .ensures .1)
+    reported-refused _ _ _ _ _ _ (told .report2 .ok) (room .if1 .left) _ _ (told .report2 .ensures .0) (told .report2 .ensures .1)
     _ (request-unnamed refl _ (request .request2 .given .1)) (refusal .refused .ensures)
 
 pub build-spec : {M : Type 1} → statement M
@@ -82,6 +85,7 @@ build-spec =
     same-length
     same-length-2
     same-length-3
-    returns-2
     same-length-4
+    returns-2
+    same-length-5
     returns-3)

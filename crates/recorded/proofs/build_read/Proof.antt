@@ -52,6 +52,9 @@ same-length-3 c = search needs
 same-length-4 : tie.Need-same-length-4
 same-length-4 c = search needs
 
+same-length-5 : tie.Need-same-length-5
+same-length-5 c = search needs
+
 returns : tie.Need-returns
 unfolding asked
 returns c =
@@ -66,9 +69,6 @@ returns c =
     (request-is (start .args .bytes .now) (start .args .closed .now) (d .last .1 .0) (d .result) (d .ensures) _ _ read)
     (closed-as _ _ _ (part-is (start .args .bytes .now) (start .args .closed .now) (d .last .1 .0) (d .result) (d .ensures) _ _ read) (built .ensures))
 
-same-length-5 : tie.Need-same-length-5
-same-length-5 c = search needs
-
 same-length-6 : tie.Need-same-length-6
 same-length-6 c = search needs
 
@@ -77,6 +77,12 @@ same-length-7 c = search needs
 
 same-length-8 : tie.Need-same-length-8
 same-length-8 c = search needs
+
+same-length-9 : tie.Need-same-length-9
+same-length-9 c = search needs
+
+same-length-10 : tie.Need-same-length-10
+same-length-10 c = search needs
 
 returns-2 : tie.Need-returns-2
 unfolding asked
@@ -107,9 +113,11 @@ build-read-spec =
     same-length-2
     same-length-3
     same-length-4
-    returns
     same-length-5
+    returns
     same-length-6
     same-length-7
     same-length-8
+    same-length-9
+    same-length-10
     returns-2)

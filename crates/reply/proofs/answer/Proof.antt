@@ -14,8 +14,11 @@ slice-aggregate-serve-2 c = search needs
 slice-aggregate-serve-3 : tie.Need-slice-aggregate-serve-3
 slice-aggregate-serve-3 c = search needs
 
+slice-aggregate-serve-4 : tie.Need-slice-aggregate-serve-4
+slice-aggregate-serve-4 c = search needs
+
 serve-requires : tie.Need-serve-requires
-serve-requires c κs = ((search needs, search needs, search needs), zeros-fresh 4096)
+serve-requires c κs = ((search needs, search needs, search needs, search needs), zeros-fresh 4096)
 
 same-length : tie.Need-same-length
 same-length c = search needs
@@ -30,6 +33,7 @@ answer-spec =
     slice-aggregate-serve
     slice-aggregate-serve-2
     slice-aggregate-serve-3
+    slice-aggregate-serve-4
     serve-requires
     same-length
     returns)

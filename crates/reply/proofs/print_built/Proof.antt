@@ -17,7 +17,7 @@ returns : tie.Need-returns
 returns c =
     let refusal : tie.After-refusal = search in
     let then1 : tie.Then1 = search in
-    put-refusal _ _ _ (then1 .if1 .taken) (refusal .refusal .ensures)
+    put-refusal _ _ _ _ (then1 .if1 .taken) (refusal .refusal .ensures)
 
 cast-count : tie.Need-cast-count
 cast-count c = search needs
@@ -25,7 +25,12 @@ cast-count c = search needs
 slice-aggregate-schedule : tie.Need-slice-aggregate-schedule
 slice-aggregate-schedule c =
     let start : tie.Start = search in
-    sym (length-take-le (start .args .built .count) (start .args .dates .now) (start .pre))
+    sym (length-take-le (start .args .built .count) (start .args .dates .now) (start .pre .0))
+
+slice-aggregate-schedule-2 : tie.Need-slice-aggregate-schedule-2
+slice-aggregate-schedule-2 c =
+    let start : tie.Start = search in
+    sym (length-take-le (start .args .built .count) (start .args .unadjusted .now) (start .pre .1))
 
 schedule-requires : tie.Need-schedule-requires
 schedule-requires c κs = search needs
@@ -37,7 +42,7 @@ returns-2 : tie.Need-returns-2
 returns-2 c =
     let schedule : tie.After-schedule = search in
     let else1 : tie.Else1 = search in
-    put-schedule _ _ _ (else1 .if1 .left) (schedule .schedule .ensures)
+    put-schedule _ _ _ _ (else1 .if1 .left) (schedule .schedule .ensures)
 
 pub print-built-spec : {M : Type 1} → statement M
 print-built-spec =
@@ -48,6 +53,7 @@ print-built-spec =
     returns
     cast-count
     slice-aggregate-schedule
+    slice-aggregate-schedule-2
     schedule-requires
     same-length-2
     returns-2)

@@ -22,14 +22,17 @@ same-length-2 c = search needs
 same-length-3 : tie.Need-same-length-3
 same-length-3 c = search needs
 
+same-length-4 : tie.Need-same-length-4
+same-length-4 c = search needs
+
 returns : tie.Need-returns
 returns c =
     let print-built : tie.After-print-built = search in
     let build : tie.After-build = search in
     let start : tie.Start = search in
-    built-replies _ (start .pre .0 .0) (start .pre .0 .1) (start .pre .1) (build .build .kept .1 .1 .0) (build .build .ensures) (print-built .print-built .ensures)
+    built-replies _ (start .pre .0 .0) (start .pre .0 .1) (start .pre .0 .2) (start .pre .1) (build .build .ensures) (print-built .print-built .ensures)
 
 pub reply-spec : {M : Type 1} → statement M
 reply-spec =
     tie.close
-    (tie.spec build-requires print-built-requires same-length same-length-2 same-length-3 returns)
+    (tie.spec build-requires print-built-requires same-length same-length-2 same-length-3 same-length-4 returns)

@@ -33,7 +33,7 @@ slice-aggregate-reply c =
     sym (length-take-le _ _ (served-count (start .args .input .now) (decode .decode .ensures) _ _ (request .request .given .1)))
 
 reply-requires : tie.Need-reply-requires
-reply-requires c κs = search needs
+reply-requires c κs = let start : tie.Start = search in (search needs, start .pre .1)
 
 same-length : tie.Need-same-length
 same-length c = search needs
@@ -61,6 +61,9 @@ same-length-5 c = search needs
 same-length-6 : tie.Need-same-length-6
 same-length-6 c = search needs
 
+same-length-7 : tie.Need-same-length-7
+same-length-7 c = search needs
+
 returns-2 : tie.Need-returns-2
 returns-2 c =
     let reply : tie.After-reply = search in
@@ -87,4 +90,5 @@ serve-spec =
     same-length-4
     same-length-5
     same-length-6
+    same-length-7
     returns-2)

@@ -266,7 +266,7 @@ wednesdays-length : (rule : Rule) (mask : ℕ) (closed ds ys : List ℕ) → wed
 unfolding wednesdays
 wednesdays-length rule mask closed ds ys h = wednesdays-by-length _ _ mask closed ds ys h
 
-adjustments-length : (q : Request) (closed : List ℕ) (seed : ℕ) (ds ys : List ℕ) → adjustments q closed seed ds ≡ given ys → length ys ≡ length ds
+pub adjustments-length : (q : Request) (closed : List ℕ) (seed : ℕ) (ds ys : List ℕ) → adjustments q closed seed ds ≡ given ys → length ys ≡ length ds
 unfolding adjustments
 adjustments-length q closed seed ds ys h =
     let s = then-stepped _ _ ys h in

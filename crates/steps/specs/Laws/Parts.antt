@@ -1,14 +1,21 @@
 -- What moves the first date, the last one and the middle ones, said of a list that is given in these parts.
 -- Assumes nothing.
-use Prim.Native.Nat.{ℕ, suc, _+_, _-_}
-use mathlib.Core.Path.{_≡_, refl, ap, _∙_}
+use Prim.Native.Nat.{ℕ, suc, _+_, _-_, _≤_}
+use mathlib.Core.Path.{_≡_, refl, sym, ap, _∙_}
 use mathlib.Core.List.{List, [], _∷_, _++_}
 use native.Mathlib.Omega.{arith}
-use lib.ListN.{length, length-append}
-use lib.Seq.{take-append-seam, drop-append-seam, drop-append-add}
+use lib.ListN.{length, take, drop, length-append, take-append-drop}
+use lib.Seq.{take-append-seam, drop-append-seam, drop-append-add, drop-drop}
 use Rattle.refusal.specs.Answer.{Answer, given, refused, then}
 use Rattle.refusal.specs.Laws.Answers.{then-stepped}
 use Rattle.steps.specs.Finish.{each, between, onFirst, onLast, onMiddle}
+
+-- a list is what stands before place a, from there up to place b, and from there on
+pub in-parts : (a b : ℕ) (ds : List ℕ) → a ≤ b → take a ds ++ (take (b - a) (drop a ds) ++ drop b ds) ≡ ds
+in-parts a b ds h =
+    let k : a + (b - a) ≡ b = omega arith in
+    let e : drop b ds ≡ drop (b - a) (drop a ds) = ap (λ (n : ℕ). drop n ds) (sym k) ∙ sym (drop-drop (b - a) a ds) in
+    rw (e, take-append-drop (b - a) (drop a ds)) (take-append-drop a ds)
 
 module _ (f : ℕ → Answer ℕ) where
   between-parts : (xs ys zs : List ℕ) (a b : ℕ) → a ≡ length xs → b ≡ length xs + length ys → between f a b (xs ++ (ys ++ zs)) ≡ then (each f ys) (λ us. given (xs ++ (us ++ zs)))
@@ -64,6 +71,13 @@ module _ (f : ℕ → Answer ℕ) where
   pub moved-on : (x y : ℕ) (xs ys : List ℕ) → f x ≡ given y → each f xs ≡ given ys → each f (x ∷ xs) ≡ given (y ∷ ys)
   unfolding each then
   moved-on x y xs ys e h = rw (e, h) refl
+
+  pub moved-last : (xs ys : List ℕ) (x y : ℕ) → each f xs ≡ given ys → f x ≡ given y → each f (xs ++ (x ∷ [])) ≡ given (ys ++ (y ∷ []))
+  unfolding each
+  moved-last [] ys x y h e = let n : ys ≡ [] = cc in rw n (moved-on x y [] [] e refl)
+  moved-last (z ∷ zs) ys x y h e =
+      let m = each-moved z zs ys h in
+      rw (m .so) (moved-on z (m .first) (zs ++ (x ∷ [])) (m .others ++ (y ∷ [])) (m .first-moved) (moved-last zs (m .others) x y (m .others-moved) e))
 
   pub as-many : (xs ys : List ℕ) → each f xs ≡ given ys → length ys ≡ length xs
   unfolding each

@@ -10,7 +10,7 @@ use Rattle.backwards.proofs.ending.backward_end.Tie as tie
 use Rattle.backwards.proofs.ending.backward_end.Reads as reads
 use Rattle.backwards.proofs.ending.backward_end.Lts as lts
 use Rattle.backwards.proofs.ending.end.Reads as end-reads
-use Rattle.backwards.proofs.ending.far_place.Reads as far-place-reads
+use Rattle.working.proofs.lists.surplus.Reads as surplus-reads
 
 end-requires : tie.Need-end-requires
 end-requires c κs = search needs
@@ -34,8 +34,14 @@ returns c =
 enum-known-t : tie.Need-enum-known-t
 enum-known-t c = search needs
 
-far-place-requires : tie.Need-far-place-requires
-far-place-requires c κs = search needs
+surplus-requires : tie.Need-surplus-requires
+surplus-requires c κs = search needs
+
+surplus-requires-2 : tie.Need-surplus-requires-2
+surplus-requires-2 c κs = search needs
+
+surplus-requires-3 : tie.Need-surplus-requires-3
+surplus-requires-3 c κs = search needs
 
 same-length-3 : tie.Need-same-length-3
 same-length-3 c = search needs
@@ -46,10 +52,12 @@ same-length-4 c = search needs
 returns-2 : tie.Need-returns-2
 unfolding backwardEnd
 returns-2 c =
-    let from : tie.After-far-place = search in
+    let beyond : tie.After-surplus3 = search in
+    let known : tie.After-surplus2 = search in
+    let from : tie.After-surplus = search in
     let tip : tie.After-t = search in
     let end : tie.After-end = search in
-    record { run = λ a. added-on _ _ (end .end .ensures) _ (tip .t .given .1) a (λ s. back-made _ _ _ (begun-placed (s .begun)) (from .far-place .ensures)) }
+    record { run = λ a. added-on _ _ (end .end .ensures) _ (tip .t .given .1) a (λ s. back-made _ _ _ _ _ _ _ (begun-placed (s .begun)) (from .surplus .ensures) (known .surplus2 .ensures) (beyond .surplus3 .ensures)) }
 
 pub backward-end-spec : {M : Type 1} → statement M
 backward-end-spec =
@@ -61,7 +69,9 @@ backward-end-spec =
     same-length-2
     returns
     enum-known-t
-    far-place-requires
+    surplus-requires
+    surplus-requires-2
+    surplus-requires-3
     same-length-3
     same-length-4
     returns-2)

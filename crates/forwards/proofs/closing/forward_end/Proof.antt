@@ -44,7 +44,7 @@ unfolding forwardEnd
 returns-2 c =
     let ready : tie.After-n = search in
     let shut : tie.After-shut = search in
-    record { run = λ a. filled-on _ _ (shut .shut .ensures) _ (ready .n .given .1) a (λ p. forth-made _ _ p) }
+    record { run = λ a. filled-on _ _ (shut .shut .ensures) _ (ready .n .given .1) a (λ p. forth-made _ _ _ _ p) }
 
 pub forward-end-spec : {M : Type 1} → statement M
 forward-end-spec =

@@ -1,19 +1,29 @@
 -- `printing::lines::put_all_later` meets its contract.
 -- Assumes nothing.
-use lib.ListN.{length}
 use Prim.Native.Nat.{_-_}
-use Rattle.printing.proofs.Laying.{Laid, layings}
+use mathlib.Core.Path.{refl}
+use lib.ListN.{length}
+use Rattle.printing.proofs.Laying.{Laid, laid-more, layings}
 use Rattle.printing.proofs.lines.put_all_later.Statement.{statement}
 use Rattle.printing.proofs.lines.put_all_later.Tie as tie
 
 abbrev Inv-loop : tie.InvT-loop
-Inv-loop dates flags at out₀ next₀ i₀ out next i = Laid dates flags at out₀ out next i
+Inv-loop dates flags unadjusted at out₀ next₀ i₀ out next i = Laid dates flags unadjusted at out₀ out next i
 
 abbrev μ-loop : tie.MeasureT-loop
-μ-loop dates flags at out₀ next₀ i₀ out next i = length dates - i
+μ-loop dates flags unadjusted at out₀ next₀ i₀ out next i = length dates - i
 
 loop-holds : tie.Need-loop-holds Inv-loop μ-loop
 loop-holds c = search layings
+
+mul-unadjusted-at : tie.Need-mul-unadjusted-at Inv-loop μ-loop
+mul-unadjusted-at c = search layings
+
+shared-slice-read-unadjusted-at : tie.Need-shared-slice-read-unadjusted-at Inv-loop μ-loop
+shared-slice-read-unadjusted-at c = search layings
+
+unadjusted-at-requires : tie.Need-unadjusted-at-requires Inv-loop μ-loop
+unadjusted-at-requires c κs = search layings
 
 mul-put-later : tie.Need-mul-put-later Inv-loop μ-loop
 mul-put-later c = search layings
@@ -34,7 +44,13 @@ loop-less : tie.Need-loop-less Inv-loop μ-loop
 loop-less c = search layings
 
 loop-again : tie.Need-loop-again Inv-loop μ-loop
-loop-again c = search layings
+loop-again c =
+    let put-later : tie.After-put-later Inv-loop μ-loop = search in
+    let mark-at : tie.After-mark-at Inv-loop μ-loop = search in
+    let unadjusted-at : tie.After-unadjusted-at Inv-loop μ-loop = search in
+    let in-loop : tie.In-loop Inv-loop μ-loop = search in
+    let at-loop : tie.At-loop Inv-loop μ-loop = search in
+    laid-more _ _ _ (at-loop .loop .inv) (in-loop .loop-test .taken) refl (mark-at .mark-at .ensures) (unadjusted-at .unadjusted-at .ensures) (put-later .put-later .ensures)
 
 same-length : tie.Need-same-length Inv-loop μ-loop
 same-length c = search layings
@@ -49,6 +65,9 @@ put-all-later-spec =
     Inv-loop
     μ-loop
     loop-holds
+    mul-unadjusted-at
+    shared-slice-read-unadjusted-at
+    unadjusted-at-requires
     mul-put-later
     shared-slice-read-put-later
     mark-at-requires

@@ -1,9 +1,8 @@
 -- `schedule::generating::zero_dates` meets its contract.
 -- Assumes nothing.
 use Rattle.steps.specs.Generate.{zeroDates}
-use mathlib.Core.Path.{refl}
 use Rattle.working.specs.Part.{filled-kept, filled-stops, filled-on}
-use Rattle.working.specs.Making.{generated-is-refused, back-made}
+use Rattle.working.specs.Making.{generated-is-refused, back-unpaid}
 use Rattle.schedule.proofs.Building.{zero-size}
 use borrow.Author.Needs.{needs}
 use Rattle.schedule.proofs.generating.zero_dates.Statement.{statement}
@@ -17,16 +16,6 @@ put-two-requires c κs = search needs
 
 enum-known-k : tie.Need-enum-known-k
 enum-known-k c = search needs
-
-enum-known-n : tie.Need-enum-known-n
-enum-known-n c = search needs
-
-sub-from : tie.Need-sub-from
-sub-from c =
-    let ready : tie.After-n = search in
-    let two : tie.After-put-two = search in
-    let start : tie.Start = search in
-    zero-size (filled-kept _ (two .put-two .ensures) _ (ready .n .given .1) (start .pre))
 
 same-length : tie.Need-same-length
 same-length c = search needs
@@ -42,6 +31,16 @@ returns c =
     let start : tie.Start = search in
     filled-stops _ _ (two .put-two .ensures) _ (stop .k .given .1) (start .pre) (generated-is-refused _)
 
+enum-known-n : tie.Need-enum-known-n
+enum-known-n c = search needs
+
+sub-from : tie.Need-sub-from
+sub-from c =
+    let ready : tie.After-n = search in
+    let two : tie.After-put-two = search in
+    let start : tie.Start = search in
+    zero-size (filled-kept _ (two .put-two .ensures) _ (ready .n .given .1) (start .pre))
+
 same-length-3 : tie.Need-same-length-3
 same-length-3 c = search needs
 
@@ -54,7 +53,7 @@ returns-2 c =
     let ready : tie.After-n = search in
     let two : tie.After-put-two = search in
     let start : tie.Start = search in
-    filled-on _ _ (two .put-two .ensures) _ (ready .n .given .1) (start .pre) (λ p. back-made _ _ _ p refl)
+    filled-on _ _ (two .put-two .ensures) _ (ready .n .given .1) (start .pre) (λ p. back-unpaid _ _ p)
 
 pub zero-dates-spec : {M : Type 1} → statement M
 zero-dates-spec =

@@ -12,7 +12,7 @@ use Rattle.calendar.specs.Adjust.{adjusted}
 use Rattle.calendar.specs.Inner.Near.{known-near}
 use Rattle.calendar.specs.Laws.Told.{placed-day, placed-refused}
 use Rattle.working.specs.Turning.{Front}
-use Rattle.working.proofs.Turns.{compare-stop, compare-closed, compare-skip, compare-settle, compare-keep}
+use Rattle.working.proofs.Turns.{compare-stop, compare-closed, compare-skip, compare-keep}
 use borrow.Author.Needs.{needs}
 use Rattle.working.proofs.candidates.compare.Statement.{statement}
 use Rattle.working.proofs.candidates.compare.Tie as tie
@@ -45,7 +45,7 @@ returns : tie.Need-returns
 returns c =
     let stop : tie.After-found = search in
     let found : tie.After-adjust = search in
-    λ ok k. compare-stop _ _ _ _ _ _ (found .adjust .result) (found .adjust .ensures ok) (stop .found .given .0 .0) (stop .found .given .1)
+    λ ok k. compare-stop _ _ _ _ _ (found .adjust .result) (found .adjust .ensures ok) (stop .found .given .0 .0) (stop .found .given .1)
 
 enum-known-found-2 : tie.Need-enum-known-found-2
 enum-known-found-2 c = search needs
@@ -64,28 +64,21 @@ returns-2 c =
     let b : tie.After-moved2 = search in
     let a : tie.After-adjust-near = search in
     let join : tie.Joined1 = search in
-    λ ok k. compare-skip _ _ _ _ _ _ _ (held join ok (k .front)) _ _ (placed-day _ _ (a .adjust-near .ensures ok (k .month) .says) _ _ (b .moved2 .given .1)) (known-near _ _ _ (a .adjust-near .ensures ok (k .month) .known) (b .moved2 .given .1)) (c .if2 .taken)
+    λ ok k. compare-skip _ _ _ _ _ _ (held join ok (k .front)) _ _ (placed-day _ _ (a .adjust-near .ensures ok (k .month) .says) _ _ (b .moved2 .given .1)) (known-near _ _ _ (a .adjust-near .ensures ok (k .month) .known) (b .moved2 .given .1)) (c .if2 .taken)
 
 returns-3 : tie.Need-returns-3
 returns-3 c =
-    let b : tie.After-moved2 = search in
-    let a : tie.After-adjust-near = search in
-    let join : tie.Joined1 = search in
-    λ ok k. compare-settle _ _ _ _ _ _ _ (held join ok (k .front)) _ _ (placed-day _ _ (a .adjust-near .ensures ok (k .month) .says) _ _ (b .moved2 .given .1)) (known-near _ _ _ (a .adjust-near .ensures ok (k .month) .known) (b .moved2 .given .1)) (c .before .if2 .left) (c .if3 .taken)
-
-returns-4 : tie.Need-returns-4
-returns-4 c =
     let stop : tie.After-moved = search in
     let a : tie.After-adjust-near = search in
     let join : tie.Joined1 = search in
-    λ ok k. compare-closed _ _ _ _ _ _ _ (held join ok (k .front)) _ (placed-refused _ _ (a .adjust-near .ensures ok (k .month) .says) _ (stop .moved .given .1))
+    λ ok k. compare-closed _ _ _ _ _ _ (held join ok (k .front)) _ (placed-refused _ _ (a .adjust-near .ensures ok (k .month) .says) _ (stop .moved .given .1))
 
-returns-5 : tie.Need-returns-5
-returns-5 c =
+returns-4 : tie.Need-returns-4
+returns-4 c =
     let b : tie.After-moved2 = search in
     let a : tie.After-adjust-near = search in
     let join : tie.Joined1 = search in
-    λ ok k. compare-keep _ _ _ _ _ _ _ (held join ok (k .front)) _ _ (placed-day _ _ (a .adjust-near .ensures ok (k .month) .says) _ _ (b .moved2 .given .1)) (known-near _ _ _ (a .adjust-near .ensures ok (k .month) .known) (b .moved2 .given .1)) (c .before .if2 .left) (c .if3 .left)
+    λ ok k. compare-keep _ _ _ _ _ _ (held join ok (k .front)) _ _ (placed-day _ _ (a .adjust-near .ensures ok (k .month) .says) _ _ (b .moved2 .given .1)) (known-near _ _ _ (a .adjust-near .ensures ok (k .month) .known) (b .moved2 .given .1)) (c .if2 .left)
 
 pub compare-spec : {M : Type 1} → statement M
 compare-spec =
@@ -100,5 +93,4 @@ compare-spec =
     enum-known-moved-2
     returns-2
     returns-3
-    returns-4
-    returns-5)
+    returns-4)

@@ -27,7 +27,7 @@ returns c =
     let past : tie.After-is-past = search in
     let day : tie.After-next2 = search in
     let next : tie.After-candidate = search in
-    λ ok f. turn-past _ _ _ _ _ _ _ _ _ _ (next .candidate .result) (next .candidate .ensures) (day .next2 .given .0 .0) (cc) (past .is-past .result) (past .is-past .ensures) (c .if1 .taken)
+    λ ok f. turn-past _ _ _ _ _ _ _ _ _ (next .candidate .result) (next .candidate .ensures) (day .next2 .given .0 .0) (cc) (past .is-past .result) (past .is-past .ensures) (c .if1 .taken)
 
 compare-requires : tie.Need-compare-requires
 compare-requires c κs = search needs
@@ -36,7 +36,7 @@ returns-2 : tie.Need-returns-2
 returns-2 c =
     let stop : tie.After-next = search in
     let next : tie.After-candidate = search in
-    λ ok f. turn-stop _ _ _ _ _ _ _ _ _ _ (next .candidate .result) (next .candidate .ensures) (stop .next .given .0 .0) (cc)
+    λ ok f. turn-stop _ _ _ _ _ _ _ _ _ (next .candidate .result) (next .candidate .ensures) (stop .next .given .0 .0) (cc)
 
 returns-3 : tie.Need-returns-3
 returns-3 c =
@@ -44,7 +44,7 @@ returns-3 c =
     let past : tie.After-is-past = search in
     let day : tie.After-next2 = search in
     let next : tie.After-candidate = search in
-    λ ok f. turn-on _ _ _ _ _ _ _ _ _ _ (next .candidate .result) (next .candidate .ensures) (day .next2 .given .0 .0) (cc) (past .is-past .result) (past .is-past .ensures) _ (on .if1 .left) (c .compare .ensures ok f)
+    λ ok f. turn-on _ _ _ _ _ _ _ _ _ (next .candidate .result) (next .candidate .ensures) (day .next2 .given .0 .0) (cc) (past .is-past .result) (past .is-past .ensures) _ (on .if1 .left) (c .compare .ensures ok f)
 
 pub try-candidate-spec : {M : Type 1} → statement M
 try-candidate-spec =

@@ -1,0 +1,56 @@
+-- `finish::adjusting::pay_last` meets its contract.
+-- Assumes nothing.
+use Rattle.finish.proofs.Pays.{last-alone, last-of-many}
+use borrow.Author.Needs.{needs}
+use Rattle.finish.proofs.adjusting.pay_last.Statement.{statement}
+use Rattle.finish.proofs.adjusting.pay_last.Tie as tie
+use Rattle.finish.proofs.adjusting.pay_last.Reads as reads
+use Rattle.finish.proofs.adjusting.pay_last.Lts as lts
+use Rattle.finish.proofs.adjusting.move_last.Reads as move-last-reads
+use Rattle.finish.proofs.moving.pay_between.Reads as pay-between-reads
+use Rattle.steps.proofs.moves.last_move.Reads as last-move-reads
+
+last-move-requires : tie.Need-last-move-requires
+last-move-requires c κs = search needs
+
+move-last-requires : tie.Need-move-last-requires
+move-last-requires c κs = search needs
+
+same-length : tie.Need-same-length
+same-length c = search needs
+
+returns : tie.Need-returns
+returns c =
+    let paid : tie.After-move-last = search in
+    let test : tie.Then1 = search in
+    let what : tie.After-last-move = search in
+    λ ok. last-alone _ _ _ _ _ (what .last-move .ensures) _ _ (test .if1 .taken) (paid .move-last .ensures ok)
+
+sub-pay-between : tie.Need-sub-pay-between
+sub-pay-between c = search needs
+
+pay-between-requires : tie.Need-pay-between-requires
+pay-between-requires c κs = search needs
+
+same-length-2 : tie.Need-same-length-2
+same-length-2 c = search needs
+
+returns-2 : tie.Need-returns-2
+returns-2 c =
+    let paid : tie.After-pay-between = search in
+    let test : tie.Else1 = search in
+    let what : tie.After-last-move = search in
+    λ ok. last-of-many _ _ _ _ _ (what .last-move .ensures) _ _ (test .if1 .left) (paid .pay-between .ensures ok)
+
+pub pay-last-spec : {M : Type 1} → statement M
+pay-last-spec =
+    tie.close
+    (tie.spec
+    last-move-requires
+    move-last-requires
+    same-length
+    returns
+    sub-pay-between
+    pay-between-requires
+    same-length-2
+    returns-2)
