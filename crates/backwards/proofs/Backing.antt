@@ -51,9 +51,12 @@ pub ruleset penultimate = (penultimate-absent, penultimate-full, penultimate-on,
 -- ---- the end
 
 -- ---- what the steps were called with is what the definition says
-pub begun-is : (q : Request) (room : ℕ) (pace : Pace) (seed : Seed) → pace ≡ paceOf (q .tenor) → seed ≡ seedOf (q .monthend) (q .termination .day) → then (put room (q .termination .day) 1 nothing) (putPenultimate pace seed room (q .penultimate .day)) ≡ begun q room
+pub begun-is : (q : Request) (room : ℕ) (pace : Pace) → pace ≡ paceOf (q .tenor) → then (put room (q .termination .day) 1 nothing) (putPenultimate pace (seedOf (q .monthend) (q .termination .day)) room (q .penultimate .day)) ≡ begun q room
 unfolding begun
-begun-is q room pace seed a b = rw (a, b) refl
+begun-is q room pace a = rw a refl
+
+pub seeded : {C : Type 0} {view : C → Lists} {Keeps : C → Type 0} {r : Answer C} (pace : Pace) (seed seed′ : Seed) (room anchor : ℕ) (l : Lists) → seed ≡ seed′ → Gives view Keeps (putPenultimate pace seed room anchor l) r → Gives view Keeps (putPenultimate pace seed′ room anchor l) r
+seeded pace seed seed′ room anchor l e g = rw (← e) g
 
 pub back-end-seed : {C : Type 0} {view : C → Made} {Keeps : C → Type 0} {r : Answer C} (q : Request) (closed : List ℕ) (room tries seed seed′ : ℕ) (l : Lists) → seed ≡ seed′ → Gives view Keeps (backwardEnd q closed room tries seed l) r → Gives view Keeps (backwardEnd q closed room tries seed′ l) r
 back-end-seed q closed room tries seed seed′ l e g = rw (← e) g

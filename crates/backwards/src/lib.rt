@@ -77,9 +77,8 @@ pub fn backward(
     let tenor = q.tenor;
     let pace = candidates::pace_of(tenor);
     let termination = q.termination.day;
-    let seed = seeds::seed_of(q.monthend, termination);
     let anchor = q.penultimate.day;
-    let n = match beginning::begin(termination, anchor, pace, seed, room, work, marks) {
+    let n = match beginning::begin(termination, anchor, pace, q.monthend, room, work, marks) {
         Filled::Refused(k) => return Generated::Refused(k),
         Filled::Ready(n) => n,
     };

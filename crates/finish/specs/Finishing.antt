@@ -6,7 +6,7 @@ use mathlib.Core.Bool.{_&&_}
 use mathlib.Core.List.{List}
 use lib.Dec.{eqb, leb}
 use lib.ListN.{length}
-use Rattle.refusal.specs.Answer.{Answer, given, refused, then, UNEVEN, ROOM}
+use Rattle.refusal.specs.Answer.{Answer, refused, then, UNEVEN, ROOM}
 use Rattle.date.specs.Civil.{pickN}
 use Rattle.steps.specs.declared.Request.{Request}
 use Rattle.steps.specs.declared.Built.{Built}
@@ -25,11 +25,6 @@ pub record Lent (work paid marks dates flags unadjusted : List ℕ) : Type 0 whe
 
 abbrev pub pair : List ℕ → List ℕ → Merged
 pair ds fs = record { dates = ds; flags = fs }
-
--- the entries of what the merges leave
-unfoldable pub entered : ℕ → Merged → List ℕ → Answer Entries
-entered tries done unadjusted =
-    given (record { schedule = record { dates = done .dates; flags = done .flags; tries = tries }; unadjusted = unadjusted })
 
 -- ---- the answer's record
 unfoldable pub acceptedBuilt : Request → ℕ → ℕ → Built

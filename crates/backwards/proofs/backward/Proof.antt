@@ -14,14 +14,10 @@ use Rattle.backwards.proofs.backward.Reads as reads
 use Rattle.backwards.proofs.backward.Lts as lts
 use Rattle.backwards.proofs.backward_from.Reads as backward-from-reads
 use Rattle.backwards.proofs.beginning.begin.Reads as begin-reads
-use Rattle.steps.proofs.seeds.seed_of.Reads as seed-of-reads
 use Rattle.working.proofs.candidates.pace_of.Reads as pace-of-reads
 
 pace-of-requires : tie.Need-pace-of-requires
 pace-of-requires c κs = search needs
-
-seed-of-requires : tie.Need-seed-of-requires
-seed-of-requires c κs = search needs
 
 begin-requires : tie.Need-begin-requires
 begin-requires c κs = search needs
@@ -40,9 +36,8 @@ unfolding backward
 returns c =
     let stop : tie.After-k = search in
     let one : tie.After-begin = search in
-    let seed : tie.After-seed-of = search in
     let pace : tie.After-pace-of = search in
-    record { run = λ b. filled-stops _ _ (step-as (begun-is _ _ _ _ (pace .pace-of .ensures ∙ pace-checked _ (b .checked .tenor)) (seed .seed-of .ensures)) (one .begin .ensures)) _ (stop .k .given .1) (b .part) (generated-is-refused _) }
+    record { run = λ b. filled-stops _ _ (step-as (begun-is _ _ _ (pace .pace-of .ensures ∙ pace-checked _ (b .checked .tenor))) (one .begin .ensures)) _ (stop .k .given .1) (b .part) (generated-is-refused _) }
 
 enum-known-n : tie.Need-enum-known-n
 enum-known-n c = search needs
@@ -65,16 +60,14 @@ returns-2 c =
     let rest : tie.After-backward-from = search in
     let ready : tie.After-n = search in
     let one : tie.After-begin = search in
-    let seed : tie.After-seed-of = search in
     let pace : tie.After-pace-of = search in
-    record { run = λ b. filled-on _ _ (step-as (begun-is _ _ _ _ (pace .pace-of .ensures ∙ pace-checked _ (b .checked .tenor)) (seed .seed-of .ensures)) (one .begin .ensures)) _ (ready .n .given .1) (b .part) (λ p. rest .backward-from .ensures .run (pace .pace-of .ensures ∙ pace-checked _ (b .checked .tenor), (begun (b .checked .calendar) p, b .paid-size))) }
+    record { run = λ b. filled-on _ _ (step-as (begun-is _ _ _ (pace .pace-of .ensures ∙ pace-checked _ (b .checked .tenor))) (one .begin .ensures)) _ (ready .n .given .1) (b .part) (λ p. rest .backward-from .ensures .run (pace .pace-of .ensures ∙ pace-checked _ (b .checked .tenor), (begun (b .checked .calendar) p, b .paid-size))) }
 
 pub backward-spec : {M : Type 1} → statement M
 backward-spec =
     tie.close
     (tie.spec
     pace-of-requires
-    seed-of-requires
     begin-requires
     enum-known-k
     same-length

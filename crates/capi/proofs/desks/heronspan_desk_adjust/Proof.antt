@@ -26,12 +26,17 @@ minus-requires c κs = search needs
 
 returns : tie.Need-returns
 returns c =
+    let adjusted : tie.After-adjust = search in
+    let known : tie.After-named = search in
+    let asked : tie.After-convention-of = search in
     told itself (c .of-dated .ok) _ _ (c .of-dated .ensures)
-    (named _ _ _ _ (convention-named (c .before .before .before .before .before .convention-of .ensures) _ (c .before .before .before .named .given .1)) (c .before .adjust .ensures))
+    (named _ _ _ _ (convention-named (asked .convention-of .ensures) _ (known .named .given .1)) (adjusted .adjust .ensures))
 
 returns-2 : tie.Need-returns-2
 returns-2 c =
-    told-refused itself (c .minus .ok) _ _ (c .minus .ensures) (unnamed _ _ _ (convention-unnamed (c .before .before .before .before .convention-of .ensures) _ (c .before .before .named2 .given .1)))
+    let known : tie.After-named2 = search in
+    let asked : tie.After-convention-of = search in
+    told-refused itself (c .minus .ok) _ _ (c .minus .ensures) (unnamed _ _ _ (convention-unnamed (asked .convention-of .ensures) _ (known .named2 .given .1)))
 
 pub heronspan-desk-adjust-spec : {M : Type 1} → statement M
 heronspan-desk-adjust-spec =
