@@ -8,6 +8,8 @@ use lib.Dec.{eqb}
 use mathlib.Core.Logic.{_⊎_}
 use lib.ListN.{length, take, drop}
 use Rattle.refusal.specs.Answer.{Answer, given, then}
+use Rattle.steps.specs.declared.Move.{Move}
+use Rattle.steps.specs.declared.Move.the-variants.{Stay}
 use Rattle.steps.specs.declared.Rule.{Rule}
 use Rattle.steps.specs.declared.Rule.the-variants.{ThirdWednesday, ThirdWednesdayInclusive}
 use Rattle.steps.specs.declared.Request.{Request}
@@ -29,6 +31,12 @@ pub record Narrowed (n : ℕ) (known r : Paid) : Type 0 where
   pub order : r .from ≤ r .to
   pub last : r .to ≤ 1 + (n - 2)
   pub among : (r .from ≡ r .to) ⊎ ((known .from ≤ r .from) × (r .to ≤ known .to))
+
+-- the first date is paid, and not left alone
+pub record FirstPaid (what : Move) (known : Paid) : Type 0 where
+  pub from : known .from ≡ 0
+  pub some : 1 ≤ known .to
+  pub moves : what ≡ Stay → ⊥
 
 -- under a rule that moves dates to third Wednesdays none is paid yet
 unfoldable pub paidIf : Bool → Paid → Paid

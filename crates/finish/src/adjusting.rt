@@ -5,10 +5,10 @@ ghost use Prim.Native.Nat.{_+_, _-_, _≤_, min, max};
 ghost use lib.ListN.{length};
 ghost use Rattle.calendar.specs.Open.{closedOk};
 ghost use Rattle.calendar.specs.Adjust.{adjusted};
-ghost use Rattle.steps.specs.Finish.{moved, onLast, onMiddle, wednesdays, adjustments};
+ghost use Rattle.steps.specs.Finish.{moved, onLast, onMiddle, firstMove, wednesdays, adjustments};
 ghost use Rattle.steps.specs.Entries.{pairsOf};
 ghost use Rattle.finish.specs.Moving.{done, paired};
-ghost use Rattle.finish.specs.Paying.{payBetween, PaidAlready, Narrowed, stillPaid, payLast, payMiddle};
+ghost use Rattle.finish.specs.Paying.{payBetween, PaidAlready, Narrowed, FirstPaid, stillPaid, payLast, payMiddle};
 use crate::Paid;
 use crate::moving;
 use crate::moving::Done;
@@ -169,6 +169,28 @@ fn pay_last(q: Request, closed: &[u32], work: &[u32], paid: &mut [u32]) -> Done
     moving::pay_between(work, paid, n - 1, n, what, q.mask, closed)
 }
 
+// Whether a first date that is moved so stands among the paid ones.
+fn is_first_paid(what: Move, known: Paid) -> bool
+    ensures { λ r. ⌜ (r ≡ true → FirstPaid what known) ⌝ }
+{
+    match what {
+        Move::Adjust(_) => known.from == 0 && 0 < known.to,
+        _ => false,
+    }
+}
+
+// The first date, unless it is paid.
+fn pay_first(q: Request, closed: &[u32], known: Paid, work: &[u32], paid: &mut [u32]) -> Done
+    requires { ⌜ (1 ≤ length (now work)) × (length (now work) ≡ length (now paid)) ⌝ }
+    ensures { λ r. ⌜ (closedOk (now (closed .entry)) ≡ true → PaidAlready (adjusted (q .mask) (now (closed .entry)) (q .convention)) (known .from) (known .to) (now (work .entry)) (now (paid .entry)) → done r (now (paid .exit)) ≡ payBetween (moved (q .mask) (now (closed .entry)) (firstMove q)) 0 1 (now (work .entry)) (now (paid .entry))) ⌝ }
+{
+    let what = moves::first_move(q);
+    if is_first_paid(what, known) {
+        return Done::Whole;
+    }
+    moving::pay_between(work, paid, 0, 1, what, q.mask, closed)
+}
+
 // The paid dates of what was generated. Those that are known stay.
 fn pay_dates(
     q: Request,
@@ -182,7 +204,7 @@ fn pay_dates(
     ensures { λ r. ⌜ (closedOk (now (closed .entry)) ≡ true → PaidAlready (adjusted (q .mask) (now (closed .entry)) (q .convention)) (known .from) (known .to) (now (work .entry)) (now (paid .entry)) → done r (now (paid .exit)) ≡ adjustments q (now (closed .entry)) seed (now (work .entry))) ⌝ }
 {
     let among = narrow(known, work.len());
-    let first = moving::pay_between(work, paid, 0, 1, moves::first_move(q), q.mask, closed);
+    let first = pay_first(q, closed, known, work, paid);
     if let Done::Refused(n) = first {
         return Done::Refused(n);
     }

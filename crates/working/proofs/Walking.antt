@@ -62,7 +62,7 @@ going-start course mask closed convention room n w paid day at b =
 
 module _ {course : Course} {mask : ℕ} {closed : List ℕ} {convention : Convention} {room start : ℕ} {o : Answer Walk} {w : Work} {paid : List ℕ} {n k : ℕ} {known : Known} (g : Going course mask closed convention room start o w paid n k known) where
   -- the candidates have been looked at
-  pub walk-out : SPAN-LAST < k → Walking mask closed convention (course .back) room start o (Refused 2) w paid
+  pub walk-out : SPAN-LAST < k → Walking mask closed convention (course .back) room o (Refused 2) w paid
   unfolding walk walked
   walk-out h =
       let a : suc SPAN-LAST - k ≡ 0 = omega arith in
@@ -80,14 +80,14 @@ module _ {course : Course} {mask : ℕ} {closed : List ℕ} {convention : Conven
         let s = rw (a, ← g .at) at (g .same) in
         rw (t .says) s
 
-    pub walk-stop : (m : ℕ) → r ≡ Stop m → Walking mask closed convention (course .back) room start o (Refused m) w paid
+    pub walk-stop : (m : ℕ) → r ≡ Stop m → Walking mask closed convention (course .back) room o (Refused m) w paid
     unfolding told then walked
     walk-stop m e = refuses m (rw e at opened)
 
-    pub walk-past : r ≡ Past → Walking mask closed convention (course .back) room start o (Ready (record { n = n; front = known .front }) k) w paid
+    pub walk-past : r ≡ Past → Walking mask closed convention (course .back) room o (Ready (record { n = n; start = start; front = known .front }) k) w paid
     unfolding told then walked onTurn
     walk-past e =
-        gives (record { n = n; front = known .front }, k) (rw e at opened)
+        gives (record { n = n; start = start; front = known .front }, k) (rw e at opened)
         (record { ahead = record { begun = g .begun; front = rw (g .at) at (g .knows .front) }; pays = g .pays })
 
     pub walk-skip : (next : Known) → r ≡ Skip next → Going course mask closed convention room start o w paid n (k + 1) next
@@ -105,7 +105,7 @@ module _ {course : Course} {mask : ℕ} {closed : List ℕ} {convention : Conven
       unfolding told then onTurn
       kept = rw (p .says) (rw e at opened)
 
-      pub walk-full : (m : ℕ) → f ≡ filled-is.Refused m → (paid′ : List ℕ) → Walking mask closed convention (course .back) room start o (Refused m) w′ paid′
+      pub walk-full : (m : ℕ) → f ≡ filled-is.Refused m → (paid′ : List ℕ) → Walking mask closed convention (course .back) room o (Refused m) w′ paid′
       unfolding filled seen then walked
       walk-full m q paid′ = refuses m (rw q at kept)
 
@@ -151,18 +151,18 @@ module _ (mask : ℕ) (closed : List ℕ) (a b : Convention) (e : adjusted mask 
   turn-alike course =
       λ i last k. then (candidate (course .back) (course .pace) (course .seed) k) (λ day. past-alike (isPast (course .back) (course .exit) day) last day i)
 
-  looped-alike : (back : Bool) (room n : ℕ) (w : Work) (paid : List ℕ) (tip : Tip) → Looped mask closed a back room n w paid tip → Looped mask closed b back room n w paid tip
-  looped-alike back room n w paid tip s =
+  looped-alike : (back : Bool) (room : ℕ) (w : Work) (paid : List ℕ) (tip : Tip) → Looped mask closed a back room w paid tip → Looped mask closed b back room w paid tip
+  looped-alike back room w paid tip s =
       record {
         ahead =
             record {
               begun = s .ahead .begun;
               front = record { known = λ h. ap (λ (g : ℕ → Answer ℕ). g (newest (held back (tip .n) w))) (sym e) ∙ s .ahead .front .known h };
             };
-        pays = subst (λ (g : ℕ → Answer ℕ). Paid g back n (tip .n) (w .days) paid) e (s .pays);
+        pays = subst (λ (g : ℕ → Answer ℕ). Paid g back (tip .start) (tip .n) (w .days) paid) e (s .pays);
       }
 
-  pub walk-alike : (course : Course) (room start fuel k : ℕ) (l : Lists) (r : Walked) (w : Work) (paid : List ℕ) → Walking mask closed a (course .back) room start (walk (turnOn course mask closed a) room fuel k l) r w paid → Walking mask closed b (course .back) room start (walk (turnOn course mask closed b) room fuel k l) r w paid
-  walk-alike course room start fuel k l r w paid g =
+  pub walk-alike : (course : Course) (room fuel k : ℕ) (l : Lists) (r : Walked) (w : Work) (paid : List ℕ) → Walking mask closed a (course .back) room (walk (turnOn course mask closed a) room fuel k l) r w paid → Walking mask closed b (course .back) room (walk (turnOn course mask closed b) room fuel k l) r w paid
+  walk-alike course room fuel k l r w paid g =
       gives-as (ap (λ (f : ℕ → ℕ → Answer steps.Turn). walk f room fuel k l) (turn-alike course))
-      (gives-less (λ t s. looped-alike (course .back) room start w paid (t .0) s) g)
+      (gives-less (λ t s. looped-alike (course .back) room w paid (t .0) s) g)

@@ -58,6 +58,7 @@ pub fn walk(
                 return Walked::Ready {
                     tip: Tip {
                         n,
+                        start,
                         front: known.front,
                     },
                     tries: k,

@@ -60,7 +60,7 @@ returns c =
     let test : tie.In-loop Inv-loop μ-loop = search in
     let loop : tie.At-loop Inv-loop μ-loop = search in
     let way : tie.After-convention-on Inv-loop μ-loop = search in
-    record { run = λ b. walk-alike _ _ _ _ (on-as _ _ _ _ (way .convention-on .ensures)) _ _ _ _ _ _ _ _ _ (walk-stop (loop .loop .inv .4 b) (test .loop-test .taken) _ (turn .try-candidate .ensures) _ (stop .t .given .1)) }
+    record { run = λ b. walk-alike _ _ _ _ (on-as _ _ _ _ (way .convention-on .ensures)) _ _ _ _ _ _ _ _ (walk-stop (loop .loop .inv .4 b) (test .loop-test .taken) _ (turn .try-candidate .ensures) _ (stop .t .given .1)) }
 
 enum-told : tie.Need-enum-told Inv-loop μ-loop
 enum-told c = search needs
@@ -81,7 +81,7 @@ returns-2 c =
     let test : tie.In-loop Inv-loop μ-loop = search in
     let loop : tie.At-loop Inv-loop μ-loop = search in
     let way : tie.After-convention-on Inv-loop μ-loop = search in
-    record { run = λ b. walk-alike _ _ _ _ (on-as _ _ _ _ (way .convention-on .ensures)) _ _ _ _ _ _ _ _ _ (walk-past (loop .loop .inv .4 b) (test .loop-test .taken) _ (turn .try-candidate .ensures) (past .enum-told .given .1)) }
+    record { run = λ b. walk-alike _ _ _ _ (on-as _ _ _ _ (way .convention-on .ensures)) _ _ _ _ _ _ _ _ (walk-past (loop .loop .inv .4 b) (test .loop-test .taken) _ (turn .try-candidate .ensures) (past .enum-told .given .1)) }
 
 enum-known-t-2 : tie.Need-enum-known-t-2 Inv-loop μ-loop
 enum-known-t-2 c = search needs
@@ -127,7 +127,7 @@ returns-3 c =
     let test : tie.In-loop Inv-loop μ-loop = search in
     let loop : tie.At-loop Inv-loop μ-loop = search in
     let way : tie.After-convention-on Inv-loop μ-loop = search in
-    record { run = λ b. walk-alike _ _ _ _ (on-as _ _ _ _ (way .convention-on .ensures)) _ _ _ _ _ _ _ _ _ (walk-full (loop .loop .inv .4 b) (test .loop-test .taken) _ (turn .try-candidate .ensures) _ (keep .t3 .given .1) _ _ (put .put .ensures) _ (full .put2 .given .1) _) }
+    record { run = λ b. walk-alike _ _ _ _ (on-as _ _ _ _ (way .convention-on .ensures)) _ _ _ _ _ _ _ _ (walk-full (loop .loop .inv .4 b) (test .loop-test .taken) _ (turn .try-candidate .ensures) _ (keep .t3 .given .1) _ _ (put .put .ensures) _ (full .put2 .given .1) _) }
 
 enum-known-put-2 : tie.Need-enum-known-put-2 Inv-loop μ-loop
 enum-known-put-2 c = search needs
@@ -168,7 +168,7 @@ returns-4 : tie.Need-returns-4 Inv-loop μ-loop
 returns-4 c =
     let loop : tie.At-loop Inv-loop μ-loop = search in
     let way : tie.After-convention-on Inv-loop μ-loop = search in
-    record { run = λ b. walk-alike _ _ _ _ (on-as _ _ _ _ (way .convention-on .ensures)) _ _ _ _ _ _ _ _ _ (walk-out (loop .loop .inv .4 b) (c .loop-test .left)) }
+    record { run = λ b. walk-alike _ _ _ _ (on-as _ _ _ _ (way .convention-on .ensures)) _ _ _ _ _ _ _ _ (walk-out (loop .loop .inv .4 b) (c .loop-test .left)) }
 
 pub walk-spec : {M : Type 1} → statement M
 walk-spec =
