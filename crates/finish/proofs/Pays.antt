@@ -37,7 +37,7 @@ use Rattle.finish.specs.declared.Paid.{Paid}
 use Rattle.finish.specs.declared.moving.Done.{Done}
 use Rattle.finish.specs.declared.moving.Done.the-variants.{Whole, Refused}
 use Rattle.finish.specs.Moving.{done, paired}
-use Rattle.finish.specs.Paying.{payBetween, PaidAlready, Narrowed, FirstPaid, paidIf, stillPaid, payLastOf, payLast, payMiddle, paying}
+use Rattle.finish.specs.Paying.{payBetween, PaidAlready, Narrowed, FirstPaid, LastPaid, LastKept, paidIf, stillPaid, payLastOf, payLast, payMiddle, paying}
 use Rattle.finish.specs.Laws.Paying.{paid-stays, pay-around, paying-is}
 use Rattle.finish.proofs.Moves.{done-refused, done-on}
 
@@ -188,6 +188,30 @@ module _ (q : Request) (closed : List ℕ) (seed : ℕ) (work paid : List ℕ) (
         rw (← p ok, e) (h ∙ ap (λ (g : ℕ → Answer ℕ). payBetween g 1 (1 + (length work - 2)) work paid) (alike ∙ sym (as-adjusted (q .mask) closed (q .convention))))
 
 -- ---- the last date
+adjusts : (mask : ℕ) (closed : List ℕ) (convention : Convention) (what : Move) → what ≡ Adjust convention → moved mask closed what ≡ adjusted mask closed convention
+unfolding moved
+adjusts mask closed convention what e = rw e refl
+
+pub last-paid : (what : Move) (terminal convention : Convention) (known : Paid) (n : ℕ) → what ≡ Adjust terminal → terminal ≡ convention → known .from < n → n ≤ known .to → LastPaid convention what known n
+last-paid what terminal convention known n e s from to = record { from = from; to = to; moves = e ∙ ap Adjust s }
+
+-- the first date that is filled in leaves the last
+pub last-kept : (f g : ℕ → Answer ℕ) (known : Paid) (ds ps ps′ : List ℕ) → length ds ≡ length ps → given ps′ ≡ payBetween g 0 1 ds ps → PaidAlready f (known .from) (known .to) ds ps → LastKept f known ds ps′
+last-kept f g known ds ps ps′ even e p =
+    record {
+      kept =
+          λ from to two. after-first f g (length ds - 1) (length ds) ds ps ps′ even (omega arith) (omega arith) e (part-paid f ds ps (known .from) (known .to) (length ds - 1) (length ds) (omega arith) (omega arith) to p);
+    }
+
+pub last-stays : (q : Request) (closed work paid : List ℕ) (what : Move) → what ≡ lastMove q → (known : Paid) → (length work ≡ 1 → ⊥) → 1 ≤ length work → length work ≡ length paid → LastPaid (q .convention) what known (length work) → LastKept (adjusted (q .mask) closed (q .convention)) known work paid → done Whole paid ≡ payLast q closed work paid
+unfolding payLast payLastOf done
+last-stays q closed work paid what w known e some even l k =
+    let p = k .kept (l .from) (l .to) (omega (arith, e)) in
+    let stays = paid-stays _ work paid 0 (length work - 1) (length work) (omega arith) (omega arith) (omega arith) even p in
+    let alike : moved (q .mask) closed what ≡ adjusted (q .mask) closed (q .convention) = adjusts (q .mask) closed (q .convention) what (l .moves) in
+    rw (ne-eqb (length work) 1 e, ← w)
+    (sym (ap (λ (g : ℕ → Answer ℕ). payBetween g (length work - 1) (length work) work paid) alike ∙ stays))
+
 module _ (q : Request) (closed work paid : List ℕ) (what : Move) (w : what ≡ lastMove q) (r : Done) (paid₁ : List ℕ) where
   pub last-alone : length work ≡ 1 → done r paid₁ ≡ onLast (moved (q .mask) closed what) paid → done r paid₁ ≡ payLast q closed work paid
   unfolding payLast payLastOf
@@ -228,6 +252,10 @@ module _ (q : Request) (closed : List ℕ) (seed : ℕ) (work paid : List ℕ) (
   pub dates-refused : (n : ℕ) (paid₂ : List ℕ) → r ≡ Refused n → done (Refused n) paid₂ ≡ adjustments q closed seed work
   unfolding done paying
   dates-refused n paid₂ e = done-refused _ _ r paid₁ d n e ∙ whole
+
+  pub dates-kept : (f : ℕ → Answer ℕ) (known : Paid) → r ≡ Whole → PaidAlready f (known .from) (known .to) work paid → LastKept f known work paid₁
+  unfolding done
+  dates-kept f known e p = last-kept f (moved (q .mask) closed (firstMove q)) known work paid paid₁ even (rw e at d) p
 
   module _ (e : r ≡ Whole) (t : Done) (paid₂ : List ℕ) (l : done t paid₂ ≡ payLast q closed work paid₁) where
     pub dates-last-refused : (n : ℕ) (paid₃ : List ℕ) → t ≡ Refused n → done (Refused n) paid₃ ≡ adjustments q closed seed work

@@ -1,6 +1,6 @@
 -- What the functions of the loop over the candidates answer and keep.
 -- Assumes nothing.
-use Prim.Native.Nat.{ℕ}
+use Prim.Native.Nat.{ℕ, _≤_, _<_}
 use lib.ListN.{length}
 use mathlib.Core.Path.{_≡_}
 use mathlib.Core.Bool.{Bool}
@@ -19,7 +19,7 @@ use Rattle.working.specs.declared.Tip.{Tip}
 use Rattle.working.specs.Step.{Gives, Step, stops, goes-on}
 use Rattle.working.specs.declared.Course.{Course}
 use Rattle.working.specs.declared.candidates.Known.{Known}
-use Rattle.working.specs.Part.{Work, Begun, held}
+use Rattle.working.specs.Part.{Work, Begun, held, lastDay}
 use Rattle.working.specs.Paying.{Paid}
 
 -- what is known of a day's adjusted date: `front`, or nothing where that is 0
@@ -58,6 +58,17 @@ turnOn course mask closed convention =
 pub record Ahead (mask : ℕ) (closed : List ℕ) (convention : Convention) (back : Bool) (room : ℕ) (w : Work) (tip : Tip) : Type 0 where
   pub begun : Begun closed room (tip .n) w
   pub front : Front mask closed convention (tip .front) (newest (held back (tip .n) w))
+
+-- ---- before the walk: n dates, and what is then known of the newest
+pub record Starts (back : Bool) (n : ℕ) (days paid : List ℕ) : Type 0 where
+  pub some : 0 < n
+  pub most : n ≤ 4096
+  pub size : length days ≡ 4096
+  pub paid-size : length paid ≡ 4096
+
+pub record Started (mask : ℕ) (closed : List ℕ) (convention : Convention) (back : Bool) (n : ℕ) (days paid : List ℕ) (tip : Tip) : Type 0 where
+  pub front : Front mask closed convention (tip .front) (lastDay back n days)
+  pub pays : Paid (adjusted mask closed convention) back (tip .start) n days paid
 
 -- ---- the walk
 unfoldable pub walked : Walked → Answer (Tip × ℕ)

@@ -1,7 +1,7 @@
 -- `finish::adjusting::pay_dates` meets its contract.
 -- Assumes nothing.
 use mathlib.Core.Path.{refl}
-use Rattle.finish.proofs.Pays.{dates-refused, dates-last-refused, dates-on, among-paid}
+use Rattle.finish.proofs.Pays.{dates-refused, dates-kept, dates-last-refused, dates-on, among-paid}
 use borrow.Author.Needs.{needs}
 use Rattle.finish.proofs.adjusting.pay_dates.Statement.{statement}
 use Rattle.finish.proofs.adjusting.pay_dates.Tie as tie
@@ -59,7 +59,7 @@ returns-2 c =
     let paid : tie.After-pay-first = search in
     let narrow : tie.After-narrow = search in
     let start : tie.Start = search in
-    λ ok k. dates-on _ _ _ _ _ (start .pre .0) (start .pre .1) _ _ (paid .pay-first .ensures ok k) (told .enum-told .given .1) _ _ (ended .pay-last .ensures ok) _ _ (on .enum-told2 .given .1) (middle .pay-middle .ensures ok (among-paid (start .args .q) _ (start .args .seed) _ _ (start .pre .0) (start .pre .1) _ _ (paid .pay-first .ensures ok k) (told .enum-told .given .1) _ _ (ended .pay-last .ensures ok) _ _ _ (on .enum-told2 .given .1) refl (narrow .narrow .ensures) (long .paid .given) _ k))
+    λ ok k. dates-on _ _ _ _ _ (start .pre .0) (start .pre .1) _ _ (paid .pay-first .ensures ok k) (told .enum-told .given .1) _ _ (ended .pay-last .ensures ok (dates-kept (start .args .q) _ (start .args .seed) _ _ (start .pre .0) (start .pre .1) _ _ (paid .pay-first .ensures ok k) _ _ (told .enum-told .given .1) k)) _ _ (on .enum-told2 .given .1) (middle .pay-middle .ensures ok (among-paid (start .args .q) _ (start .args .seed) _ _ (start .pre .0) (start .pre .1) _ _ (paid .pay-first .ensures ok k) (told .enum-told .given .1) _ _ (ended .pay-last .ensures ok (dates-kept (start .args .q) _ (start .args .seed) _ _ (start .pre .0) (start .pre .1) _ _ (paid .pay-first .ensures ok k) _ _ (told .enum-told .given .1) k)) _ _ _ (on .enum-told2 .given .1) refl (narrow .narrow .ensures) (long .paid .given) _ k))
 
 same-length-3 : tie.Need-same-length-3
 same-length-3 c = search needs
@@ -71,7 +71,7 @@ returns-3 c =
     let told : tie.After-enum-told = search in
     let paid : tie.After-pay-first = search in
     let start : tie.Start = search in
-    λ ok k. dates-last-refused _ _ _ _ _ (start .pre .0) (start .pre .1) _ _ (paid .pay-first .ensures ok k) (told .enum-told .given .1) _ _ (ended .pay-last .ensures ok) _ _ (known .last .given .1)
+    λ ok k. dates-last-refused _ _ _ _ _ (start .pre .0) (start .pre .1) _ _ (paid .pay-first .ensures ok k) (told .enum-told .given .1) _ _ (ended .pay-last .ensures ok (dates-kept (start .args .q) _ (start .args .seed) _ _ (start .pre .0) (start .pre .1) _ _ (paid .pay-first .ensures ok k) _ _ (told .enum-told .given .1) k)) _ _ (known .last .given .1)
 
 pub pay-dates-spec : {M : Type 1} → statement M
 pay-dates-spec =
