@@ -1,7 +1,10 @@
 // The loop over the candidates.
+ghost use mathlib.Core.Path.{_≡_};
+ghost use mathlib.Core.Bool.{true};
+ghost use Rattle.calendar.specs.Open.{closedOk};
 ghost use Rattle.steps.specs.Generate.{lastTry, walk};
 ghost use Rattle.working.specs.Part.{working};
-ghost use Rattle.working.specs.Turning.{turnOn, Walks};
+ghost use Rattle.working.specs.Turning.{Starts, Started, turnOn, Walks};
 use crate::Adjusting;
 use crate::Course;
 use crate::Filled;
@@ -12,12 +15,46 @@ use crate::candidates::Turn;
 use crate::lists;
 use calendar::search;
 use calendar::search::Near;
+use date::Dated;
 use date::span;
 
 // What the loop leaves, and the tries.
 pub enum Walked {
     Ready { tip: Tip, tries: u32 },
     Refused(u8),
+}
+
+// The newest of the n dates that are there, adjusted, and so put beside it. One that can't be adjusted is not known: it refuses only
+// where a candidate is compared with it.
+fn first_tip(
+    back: bool,
+    n: usize,
+    adjusting: Adjusting,
+    closed: &[u32],
+    work: &[u32],
+    paid: &mut [u32],
+) -> Tip
+    ensures { λ r. ⌜ (closedOk (now (closed .entry)) ≡ true → Starts back n (now (work .entry)) (now (paid .entry)) → Started (adjusting .mask) (now (closed .entry)) (adjusting .convention) back n (now (work .entry)) (now (paid .exit)) r) ⌝ }
+{
+    let newest = lists::newest(back, n, work);
+    let convention = adjusting.convention;
+    let found = search::adjust(newest, convention, adjusting.mask, closed);
+    match found {
+        Dated::Refused(_) => Tip {
+            n,
+            start: n,
+            front: 0,
+        },
+        Dated::Day(a) => {
+            let start = lists::surplus(n, 1);
+            lists::pay(back, start, a.day, paid);
+            Tip {
+                n,
+                start,
+                front: a.day,
+            }
+        }
+    }
 }
 
 // Candidates are put behind the `start` dates that are there, and their adjusted dates into `paid`, up to the first beyond the exit
@@ -43,9 +80,10 @@ pub fn walk(
     };
     let mut n = start;
     let mut k: u32 = 1;
+    let first = first_tip(back, n, way, closed, work, paid);
     let mut known = Known {
         newest: lists::newest(back, n, work),
-        front: 0,
+        front: first.front,
         near: Near::NOTHING,
     };
     while k <= span::LAST {
@@ -58,6 +96,7 @@ pub fn walk(
                 return Walked::Ready {
                     tip: Tip {
                         n,
+                        start: first.start,
                         front: known.front,
                     },
                     tries: k,

@@ -1,6 +1,6 @@
 -- `working::walks::walk` meets its contract.
 -- Assumes nothing.
-use mathlib.Core.Path.{_≡_, refl, _∙_}
+use mathlib.Core.Path.{_≡_, refl, sym, _∙_}
 use Prim.Native.Nat.{suc, _-_, _≤_}
 use native.Mathlib.Omega.{arith}
 use lib.ListN.{length}
@@ -20,23 +20,30 @@ use Rattle.working.proofs.candidates.try_candidate.Reads as try-candida
 use Rattle.working.proofs.lists.newest.Reads as newest-reads
 use Rattle.working.proofs.lists.pay.Reads as pay-reads
 use Rattle.working.proofs.lists.put.Reads as put-reads
+use Rattle.working.proofs.walks.first_tip.Reads as first-tip-reads
 
 abbrev Inv-loop : tie.InvT-loop
-Inv-loop course room closed start work₀ paid₀ marks₀ back mask way n₀ k₀ known₀ work paid marks n k known =
-    (k ≤ suc SPAN-LAST) × (length work ≡ length work₀) × (length paid ≡ length paid₀) × (length marks ≡ length marks₀) × (Begun closed room start (working work₀ marks₀) × (length paid₀ ≡ 4096) → Going course (way .mask) closed (way .convention) room start (walk (turnOn course (way .mask) closed (way .convention)) room lastTry 1 (held (course .back) start (working work₀ marks₀))) (working work marks) paid n k known)
+Inv-loop course room closed start work₀ paid₀ marks₀ back mask way n₀ k₀ first known₀ work paid marks n k known =
+    (k ≤ suc SPAN-LAST) × (length work ≡ length work₀) × (length paid ≡ length paid₀) × (length marks ≡ length marks₀) × (Begun closed room start (working work₀ marks₀) × (length paid₀ ≡ 4096) → Going course (way .mask) closed (way .convention) room (first .start) (walk (turnOn course (way .mask) closed (way .convention)) room lastTry 1 (held (course .back) start (working work₀ marks₀))) (working work marks) paid n k known)
 
 abbrev μ-loop : tie.MeasureT-loop
-μ-loop course room closed start work₀ paid₀ marks₀ back mask way n₀ k₀ known₀ work paid marks n k known =
+μ-loop course room closed start work₀ paid₀ marks₀ back mask way n₀ k₀ first known₀ work paid marks n k known =
     suc SPAN-LAST - k
 
 convention-on-requires : tie.Need-convention-on-requires Inv-loop μ-loop
 convention-on-requires c κs = search needs
 
+first-tip-requires : tie.Need-first-tip-requires Inv-loop μ-loop
+first-tip-requires c κs = search needs
+
 newest-requires : tie.Need-newest-requires Inv-loop μ-loop
 newest-requires c κs = search needs
 
 loop-holds : tie.Need-loop-holds Inv-loop μ-loop
-loop-holds c = (omega arith, refl, refl, refl, λ b. going-start _ _ _ _ _ _ _ _ _ (c .newest .ensures) b)
+loop-holds c =
+    let long : tie.After-paid Inv-loop μ-loop = search in
+    let first : tie.After-first-tip Inv-loop μ-loop = search in
+    (omega arith, refl, refl, refl, λ b. going-start _ _ _ _ _ _ _ _ _ _ _ (c .newest .ensures) (first .first-tip .ensures) (b .0, sym (long .paid .given) ∙ b .1))
 
 try-candidate-requires : tie.Need-try-candidate-requires Inv-loop μ-loop
 try-candidate-requires c κs = search needs
@@ -59,8 +66,9 @@ returns c =
     let turn : tie.After-try-candidate Inv-loop μ-loop = search in
     let test : tie.In-loop Inv-loop μ-loop = search in
     let loop : tie.At-loop Inv-loop μ-loop = search in
+    let long : tie.After-paid Inv-loop μ-loop = search in
     let way : tie.After-convention-on Inv-loop μ-loop = search in
-    record { run = λ b. walk-alike _ _ _ _ (on-as _ _ _ _ (way .convention-on .ensures)) _ _ _ _ _ _ _ _ _ (walk-stop (loop .loop .inv .4 b) (test .loop-test .taken) _ (turn .try-candidate .ensures) _ (stop .t .given .1)) }
+    record { run = λ b. walk-alike _ _ _ _ (on-as _ _ _ _ (way .convention-on .ensures)) _ _ _ _ _ _ _ _ (walk-stop (loop .loop .inv .4 (b .0, long .paid .given ∙ b .1)) (test .loop-test .taken) _ (turn .try-candidate .ensures) _ (stop .t .given .1)) }
 
 enum-told : tie.Need-enum-told Inv-loop μ-loop
 enum-told c = search needs
@@ -80,8 +88,9 @@ returns-2 c =
     let turn : tie.After-try-candidate Inv-loop μ-loop = search in
     let test : tie.In-loop Inv-loop μ-loop = search in
     let loop : tie.At-loop Inv-loop μ-loop = search in
+    let long : tie.After-paid Inv-loop μ-loop = search in
     let way : tie.After-convention-on Inv-loop μ-loop = search in
-    record { run = λ b. walk-alike _ _ _ _ (on-as _ _ _ _ (way .convention-on .ensures)) _ _ _ _ _ _ _ _ _ (walk-past (loop .loop .inv .4 b) (test .loop-test .taken) _ (turn .try-candidate .ensures) (past .enum-told .given .1)) }
+    record { run = λ b. walk-alike _ _ _ _ (on-as _ _ _ _ (way .convention-on .ensures)) _ _ _ _ _ _ _ _ (walk-past (loop .loop .inv .4 (b .0, long .paid .given ∙ b .1)) (test .loop-test .taken) _ (turn .try-candidate .ensures) (past .enum-told .given .1)) }
 
 enum-known-t-2 : tie.Need-enum-known-t-2 Inv-loop μ-loop
 enum-known-t-2 c = search needs
@@ -126,8 +135,9 @@ returns-3 c =
     let turn : tie.After-try-candidate Inv-loop μ-loop = search in
     let test : tie.In-loop Inv-loop μ-loop = search in
     let loop : tie.At-loop Inv-loop μ-loop = search in
+    let long : tie.After-paid Inv-loop μ-loop = search in
     let way : tie.After-convention-on Inv-loop μ-loop = search in
-    record { run = λ b. walk-alike _ _ _ _ (on-as _ _ _ _ (way .convention-on .ensures)) _ _ _ _ _ _ _ _ _ (walk-full (loop .loop .inv .4 b) (test .loop-test .taken) _ (turn .try-candidate .ensures) _ (keep .t3 .given .1) _ _ (put .put .ensures) _ (full .put2 .given .1) _) }
+    record { run = λ b. walk-alike _ _ _ _ (on-as _ _ _ _ (way .convention-on .ensures)) _ _ _ _ _ _ _ _ (walk-full (loop .loop .inv .4 (b .0, long .paid .given ∙ b .1)) (test .loop-test .taken) _ (turn .try-candidate .ensures) _ (keep .t3 .given .1) _ _ (put .put .ensures) _ (full .put2 .given .1) _) }
 
 enum-known-put-2 : tie.Need-enum-known-put-2 Inv-loop μ-loop
 enum-known-put-2 c = search needs
@@ -152,8 +162,8 @@ loop-again-2 c =
     let loop : tie.At-loop Inv-loop μ-loop = search in
     let work : tie.After-work Inv-loop μ-loop = search in
     let marks : tie.After-marks Inv-loop μ-loop = search in
-    let paid : tie.After-paid Inv-loop μ-loop = search in
-    (omega (arith, test .loop-test .taken), work .work .given ∙ loop .loop .inv .1, paid .paid .given ∙ loop .loop .inv .2, marks .marks .given ∙ loop .loop .inv .3, λ b. walk-keep (loop .loop .inv .4 b) (test .loop-test .taken) _ (turn .try-candidate .ensures) _ (keep .t3 .given .1) _ _ (put .put .ensures) _ (ready .put3 .given .1) _ (pay .pay .ensures))
+    let paid : tie.After-paid2 Inv-loop μ-loop = search in
+    (omega (arith, test .loop-test .taken), work .work .given ∙ loop .loop .inv .1, paid .paid2 .given ∙ loop .loop .inv .2, marks .marks .given ∙ loop .loop .inv .3, λ b. walk-keep (loop .loop .inv .4 b) (test .loop-test .taken) _ (turn .try-candidate .ensures) _ (keep .t3 .given .1) _ _ (put .put .ensures) _ (ready .put3 .given .1) _ (pay .pay .ensures))
 
 same-length-10 : tie.Need-same-length-10 Inv-loop μ-loop
 same-length-10 c = search needs
@@ -167,8 +177,9 @@ same-length-12 c = search needs
 returns-4 : tie.Need-returns-4 Inv-loop μ-loop
 returns-4 c =
     let loop : tie.At-loop Inv-loop μ-loop = search in
+    let long : tie.After-paid Inv-loop μ-loop = search in
     let way : tie.After-convention-on Inv-loop μ-loop = search in
-    record { run = λ b. walk-alike _ _ _ _ (on-as _ _ _ _ (way .convention-on .ensures)) _ _ _ _ _ _ _ _ _ (walk-out (loop .loop .inv .4 b) (c .loop-test .left)) }
+    record { run = λ b. walk-alike _ _ _ _ (on-as _ _ _ _ (way .convention-on .ensures)) _ _ _ _ _ _ _ _ (walk-out (loop .loop .inv .4 (b .0, long .paid .given ∙ b .1)) (c .loop-test .left)) }
 
 pub walk-spec : {M : Type 1} → statement M
 walk-spec =
@@ -177,6 +188,7 @@ walk-spec =
     Inv-loop
     μ-loop
     convention-on-requires
+    first-tip-requires
     newest-requires
     loop-holds
     try-candidate-requires
