@@ -2,7 +2,7 @@
 #include "../include/heronspan.h"
 #include "timing.h"
 
-enum { PLACES = 4096, RECORD = 6 };
+enum { PLACES = 4096, RECORD = 7 };
 
 struct asked {
     struct build build;

@@ -255,7 +255,8 @@ enum {
     HERONSPAN_RULE = 3,   /* the rule in force */
     HERONSPAN_SIZE = 4,   /* the length of the tenor in force */
     HERONSPAN_UNIT = 5,   /* and its unit */
-    HERONSPAN_RECORD = 6  /* how many places there are */
+    HERONSPAN_MOVED = 6,  /* the greatest number of days between a paid date and its unadjusted one */
+    HERONSPAN_RECORD = 7  /* how many places there are */
 };
 
 /* Builds a schedule and answers how many dates it has. They are written to the start of `dates`, as paid; one fewer flags, each 1

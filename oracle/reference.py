@@ -501,7 +501,7 @@ BYTES = {"build": BUILD, "trace": BUILD, "lent": tuple((at + 4, size) for at, si
          "adjust": ((2, 5),), "deskadjust": ((2, 5),), "advance": ((2, UNIT), (4, 5), (5, 2)), "next20": ((2, 10),), "prev20": ((2, 10),),
          "dateadvance": ((2, UNIT),), "times": ((1, UNIT),), "yearparts": ((2, 3),), "yearfraction": ((1, 3),),
          **{kind: ((2, 2),) for kind in "immdate immcode nextdate nextdatecode nextcode nextcodecode".split()}}
-RECORD = 6
+RECORD = 7
 
 
 def outside(words):
@@ -547,7 +547,8 @@ def read_build(w, previous=previous_twentieth):
 
 def said(b):
     """What a build has come to."""
-    return " ".join(map(str, ["ok", b.rule, b.unit, b.length, len(b.dates), *b.dates, *map(int, b.flags), *b.unadjusted]))
+    moved = max(abs(paid - before) for paid, before in zip(b.dates, b.unadjusted))
+    return " ".join(map(str, ["ok", b.rule, b.unit, b.length, len(b.dates), *b.dates, *map(int, b.flags), *b.unadjusted, moved]))
 
 
 def said_build(b, room):
@@ -556,7 +557,7 @@ def said_build(b, room):
 
 
 def paid(answered):
-    """A build's answer without its unadjusted dates: the words of the Rust."""
+    """A build's answer without its unadjusted dates and how far they moved: the words of the Rust."""
     words = answered.split()
     return " ".join(words[:4 + 2 * int(words[4])]) if words[0] == "ok" else answered
 

@@ -5,7 +5,7 @@
 #include "../../include/heronspan.h"
 #include "question.h"
 
-enum { PLACES = 4096, EXTRA = 4, RECORD = 6, ROOM = -14 };
+enum { PLACES = 4096, EXTRA = 4, RECORD = 7, ROOM = -14 };
 
 /* Answers. */
 
@@ -139,7 +139,7 @@ static int recorded(int64_t n)
 {
     if (answer[0] != (n < 0 ? (uint32_t)-n : 0) || answer[1] != (n < 0 ? 0 : (uint32_t)n))
         return 0;
-    return n >= 0 || (answer[2] == 0 && answer[3] == 0 && answer[4] == 0 && answer[5] == 0);
+    return n >= 0 || (answer[2] == 0 && answer[3] == 0 && answer[4] == 0 && answer[5] == 0 && answer[6] == 0);
 }
 
 /* Asks for a build; the request is the bytes last read where none is given. */
@@ -185,6 +185,7 @@ static void say_build(const struct build *b, struct lent l)
         say(" %u", flags[i]);
     for (int64_t i = 0; i < n; i++)
         say(" %u", unadjusted[i]);
+    say(" %u", answer[6]);
 }
 
 /* Tries, and the least room that suffices: looked for from one place below the list's own length. */

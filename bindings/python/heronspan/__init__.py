@@ -521,7 +521,7 @@ def year_report(dates: Iterable[Optional[date]]) -> Sums:
 @dataclass(frozen=True)
 class Schedule:
     """Paid dates, for each the date that it was before adjustment, and for each period between them whether it is regular; what
-    was tried, and the rule and tenor in force."""
+    was tried, the rule and tenor in force, and the greatest number of days that a date moved."""
 
     dates: list[date]
     unadjusted: list[date]
@@ -530,6 +530,7 @@ class Schedule:
     rule: Rule
     tenor: int
     unit: Unit
+    moved: int
 
     def year_fractions(self, basis: Basis) -> list[float]:
         """The year fraction of each period, on the paid dates."""
@@ -709,8 +710,8 @@ def _asked(effective, termination, tenor, unit, rule, convention, terminal, mont
 
 
 def _built(name: str, room: int, *asked: object) -> Schedule:
-    dates, flags, unadjusted, record = (_u32 * room)(), (_u8 * room)(), (_u32 * room)(), (_u32 * 6)()
-    count = _ask(name, *asked, dates, room, flags, room, unadjusted, room, record, 6)
+    dates, flags, unadjusted, record = (_u32 * room)(), (_u8 * room)(), (_u32 * room)(), (_u32 * 7)()
+    count = _ask(name, *asked, dates, room, flags, room, unadjusted, room, record, 7)
     return Schedule(
         dates=[_date(day) for day in dates[:count]],
         unadjusted=[_date(day) for day in unadjusted[:count]],
@@ -719,4 +720,5 @@ def _built(name: str, room: int, *asked: object) -> Schedule:
         rule=Rule(record[3]),
         tenor=record[4],
         unit=Unit(record[5]),
+        moved=record[6],
     )

@@ -528,7 +528,7 @@ pub mod imm {
 }
 
 /// Paid dates, for each the date that it was before adjustment, and for each period between them whether it is regular; the tries,
-/// and the rule and the tenor in force.
+/// the rule and the tenor in force, and the greatest number of days that a date moved.
 #[derive(Clone, Debug, PartialEq, Eq)]
 pub struct Schedule {
     pub dates: Vec<Date>,
@@ -538,6 +538,7 @@ pub struct Schedule {
     pub rule: Rule,
     pub tenor: u32,
     pub unit: Unit,
+    pub moved: u32,
 }
 
 /// The first date of a schedule after an asked day.
@@ -760,11 +761,11 @@ impl Schedule {
     }
 
     /// What a build leaves in the lists that are lent to it.
-    fn lent(room: usize, build: impl FnOnce(&mut [u32], &mut [u8], &mut [u32], &mut [u32; 6]) -> i64) -> Answer<Schedule> {
+    fn lent(room: usize, build: impl FnOnce(&mut [u32], &mut [u8], &mut [u32], &mut [u32; 7]) -> i64) -> Answer<Schedule> {
         let mut dates = vec![0u32; room];
         let mut flags = vec![0u8; room];
         let mut unadjusted = vec![0u32; room];
-        let mut record = [0u32; 6];
+        let mut record = [0u32; 7];
         let count = told(build(&mut dates, &mut flags, &mut unadjusted, &mut record))? as usize;
         let given = |list: &[u32]| list[..count].iter().map(|&n| Date(n)).collect();
         Ok(Schedule {
@@ -775,6 +776,7 @@ impl Schedule {
             rule: RULES[record[3] as usize],
             tenor: record[4],
             unit: UNITS[record[5] as usize],
+            moved: record[6],
         })
     }
 }

@@ -142,6 +142,7 @@ fn schedules() {
     assert_eq!(built.unadjusted, dates);
     assert_eq!(built.regular, [false, true, true, true]);
     assert_eq!((built.tries, built.rule, built.tenor, built.unit), (4, Rule::Backward, 3, Unit::Months));
+    assert_eq!(built.moved, 0);
     assert_eq!(quarterly().room(5).build(), Ok(built));
     assert_eq!(quarterly().room(4).build(), Err(Refusal::Room));
     assert_eq!(quarterly().first(day(2025, 1, 15)).build(), Err(Refusal::FirstDate));
