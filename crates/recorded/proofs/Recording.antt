@@ -67,17 +67,22 @@ record-put l b rule size unit h p q r = rw (← p, ← q, ← r) (seven-puts l (
 -- the places stay within the list while they are filled
 module _ (l : List ℕ) (h : 7 ≤ length l) where
   pub second : (a : ℕ) → 1 < length (set l 0 a)
-  second a = rw (length-set l 0 a) (omega (arith, h))
+  second a = simp length-set (omega (arith, h))
 
   pub third : (a b : ℕ) → 2 < length (set (set l 0 a) 1 b)
-  third a b = rw (length-set (set l 0 a) 1 b, length-set l 0 a) (omega (arith, h))
+  third a b = simp length-set (omega (arith, h))
 
   pub fourth : (a b c : ℕ) → 3 < length (set (set (set l 0 a) 1 b) 2 c)
-  fourth a b c = rw (length-set (set (set l 0 a) 1 b) 2 c, length-set (set l 0 a) 1 b, length-set l 0 a) (omega (arith, h))
+  fourth a b c = simp length-set (omega (arith, h))
 
   pub fifth : (a b c d : ℕ) → 4 < length (set (set (set (set l 0 a) 1 b) 2 c) 3 d)
-  fifth a b c d =
-      rw (length-set (set (set (set l 0 a) 1 b) 2 c) 3 d, length-set (set (set l 0 a) 1 b) 2 c, length-set (set l 0 a) 1 b, length-set l 0 a) (omega (arith, h))
+  fifth a b c d = simp length-set (omega (arith, h))
+
+  pub sixth : (a b c d e : ℕ) → 5 < length (set (set (set (set (set l 0 a) 1 b) 2 c) 3 d) 4 e)
+  sixth a b c d e = simp length-set (omega (arith, h))
+
+  pub seventh : (a b c d e f : ℕ) → 6 < length (set (set (set (set (set (set l 0 a) 1 b) 2 c) 3 d) 4 e) 5 f)
+  seventh a b c d e f = simp length-set (omega (arith, h))
 
 -- ---- a way through a build: the record does not fit, the request was refused, or it was built
 module _ (x : Answer Request) (closed dates flags unadjusted answer : List ℕ) {r : ℤ} (s : mag r < 9223372036854775808) where
