@@ -127,7 +127,8 @@ fn search_near(near: Near, day: u32, convention: Convention, mask: u8, closed: &
     }
 }
 
-// The same as `adjust` for one day after another: the day's place is looked for from a guess, as the place that a day near it had.
+// The date of `adjust` for one day after another, as the builder's loop compares dates: the day's place is looked for from a guess, as the place
+// that a day near it had. No move is worked out, since the loop puts the date beside its day, and the schedule tells their difference.
 pub fn adjust_near(day: u32, near: Near, convention: Convention, mask: u8, closed: &[u32]) -> Placed
     ensures { λ r. ⌜ (closedOk (now (closed .entry)) ≡ true → OneMonth (near .from) (near .to) → Adjusts mask (now (closed .entry)) convention day r) ⌝ }
 {

@@ -104,11 +104,16 @@ module _ (mask : ℕ) (closed : List ℕ) where
   unit-gives back size Months convention endOfMonth day new s h = months-gives back size Months convention endOfMonth day new h
   unit-gives back size Years convention endOfMonth day new s h = months-gives back size Years convention endOfMonth day new h
 
-  pub advanced-gives : (back : Bool) (size : ℕ) (unit : Unit) (convention : Convention) (endOfMonth : Bool) (day new : ℕ) → advanced (isOpen mask closed) back size unit convention endOfMonth day ≡ given new → Gives (advanceBase mask closed back size unit endOfMonth day)
+  advanced-gives : (back : Bool) (size : ℕ) (unit : Unit) (convention : Convention) (endOfMonth : Bool) (day new : ℕ) → advanced (isOpen mask closed) back size unit convention endOfMonth day ≡ given new → Gives (advanceBase mask closed back size unit endOfMonth day)
   unfolding advanced
   advanced-gives back size unit convention endOfMonth day new h =
       let n = need-given BOOK (inSpan day) _ new h in
       unit-gives back size unit convention endOfMonth day new (n .0) (n .1)
+
+  -- the date that was taken out of what an advance answered
+  pub took-advanced : (back : Bool) (size : ℕ) (unit : Unit) (convention : Convention) (endOfMonth : Bool) (day : ℕ) (a : Answer ℕ) (m : Answer (ℕ × ℤ)) → a ≡ dateOf m → m ≡ movedFrom (advanceBase mask closed back size unit endOfMonth day) (advanced (isOpen mask closed) back size unit convention endOfMonth day) → a ≡ advanced (isOpen mask closed) back size unit convention endOfMonth day
+  took-advanced back size unit convention endOfMonth day a m e h =
+      e ∙ ap dateOf h ∙ same-date _ _ (advanced-gives back size unit convention endOfMonth day)
 
   module _ (length : ℤ) (unit : Unit) (convention : Convention) (endOfMonth : Bool) (day : ℕ) where
     advance-gives : (new : ℕ) → advancedOf mask closed length unit convention endOfMonth day ≡ given new → Gives (advanceBase mask closed (isNegative length) (natAbs length) unit endOfMonth day)

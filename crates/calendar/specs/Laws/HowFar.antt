@@ -211,6 +211,23 @@ measured (given b) (given d) new days h =
 measured (refused n) (given d) new days h = absurd (never-both _ _ n h refl)
 measured base (refused n) new days h = absurd (never-both _ _ n h refl)
 
+-- ---- any calendar's adjustment from a day
+pub move-of : (opens : ℕ → Bool) (convention : Convention) (day new : ℕ) (days : ℤ) (date : Answer ℕ) → (date ≡ given new → adjusted opens convention day ≡ given new) → movedFrom (given day) date ≡ given (new, days) → Move opens convention day new days
+move-of opens convention day new days date f h =
+    let m = measured (given day) date new days h in
+    let e : days ≡ subℕ new day = m .difference ∙ ap (λ (k : ℕ). subℕ new k) (sym (one-given _ day (m .from) refl (m .is-base))) in
+    rw e (adjusted-move opens convention day new (f (m .is-date)))
+
+-- a month that has a last open day has a last day
+pub last-open-gives : (opens : ℕ → Bool) (day new : ℕ) → lastOpen opens day ≡ given new → Gives (lastOfMonth day)
+unfolding lastOpen
+last-open-gives opens day new h = let s = then-stepped (lastOfMonth day) _ new h in record { value = s .value; is = s .from }
+
+-- the date that was taken out of what a month end answered
+pub took-end : (opens : ℕ → Bool) (day : ℕ) (a : Answer ℕ) (m : Answer (ℕ × ℤ)) → a ≡ dateOf m → m ≡ movedFrom (lastOfMonth day) (lastOpen opens day) → a ≡ lastOpen opens day
+took-end opens day a m e h =
+    e ∙ ap dateOf h ∙ same-date (lastOfMonth day) (lastOpen opens day) (last-open-gives opens day)
+
 module _ (mask : ℕ) (closed : List ℕ) where
   adjust-given : (convention : Convention) (day new : ℕ) → adjustOf mask closed convention day ≡ given new → adjusted (isOpen mask closed) convention day ≡ given new
   unfolding adjustOf
@@ -225,17 +242,14 @@ module _ (mask : ℕ) (closed : List ℕ) where
   pub adjust-move : (convention : Convention) (day new : ℕ) (days : ℤ) → adjustMoveOf mask closed convention day ≡ given (new, days) → Move (isOpen mask closed) convention day new days
   unfolding adjustMoveOf
   adjust-move convention day new days h =
-      let m = measured (given day) (adjustOf mask closed convention day) new days h in
-      let e : days ≡ subℕ new day = m .difference ∙ ap (λ (k : ℕ). subℕ new k) (sym (one-given _ day (m .from) refl (m .is-base))) in
-      rw e (adjusted-move (isOpen mask closed) convention day new (adjust-given convention day new (m .is-date)))
+      move-of (isOpen mask closed) convention day new days (adjustOf mask closed convention day) (adjust-given convention day new) h
 
   -- ---- a month end: the former date and refusals; the days are those from the month's last day
   last-open-base : (day new : ℕ) → lastOpenOf mask closed day ≡ given new → Gives (lastOfMonth day)
-  unfolding lastOpenOf lastOpen
+  unfolding lastOpenOf
   last-open-base day new h =
-      let n = need-given CALENDAR (calendarOk mask closed) _ new (need-given BOOK (inBook day) _ new h .1) .1 in
-      let s = then-stepped (lastOfMonth day) _ new n in
-      record { value = s .value; is = s .from }
+      last-open-gives (isOpen mask closed) day new
+      (need-given CALENDAR (calendarOk mask closed) _ new (need-given BOOK (inBook day) _ new h .1) .1)
 
   pub month-end-date : (day : ℕ) → dateOf (lastOpenMoveOf mask closed day) ≡ lastOpenOf mask closed day
   unfolding lastOpenMoveOf

@@ -40,9 +40,9 @@ unfolding dateOf movedFrom then
 given-date base (given d) = refl
 given-date base (refused n) = refl
 
--- the same for what a call answered
-pub its-date : (base : ℕ) (date : Answer ℕ) (m : Answer (ℕ × ℤ)) → m ≡ movedFrom (given base) date → dateOf m ≡ date
-its-date base date m h = ap dateOf h ∙ given-date base date
+-- the date that was taken out of what an adjustment answered
+pub took : (base : ℕ) (date a : Answer ℕ) (m : Answer (ℕ × ℤ)) → a ≡ dateOf m → m ≡ movedFrom (given base) date → a ≡ date
+took base date a m e h = e ∙ ap dateOf h ∙ given-date base date
 
 -- a base that is a day, whenever there is a date
 pub record Gives {A : Type 0} (x : Answer A) : Type 0 where
