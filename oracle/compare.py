@@ -37,6 +37,8 @@ import asking
 from reference import Refused
 
 BUILT = os.path.join(os.path.dirname(os.path.abspath(__file__)), "..", "target", "oracle")
+# Questions whose answer has the days that a date moved.
+MOVED = ("adjust", "monthend", "advance", "deskadjust")
 BATCH = 2000
 EVERY = 10  # seconds between lines of progress
 RULES = "Zero Backward Forward Twentieth TwentiethIMM ThirdWednesday ThirdWednesdayInclusive OldCDS CDS CDS2015".split()
@@ -239,12 +241,27 @@ def judge_coming(line, said, own):
     return "what the Rust's list shows", []
 
 
+def base(words):
+    """The day that a date moved from: the day given, its month's last, or the sum, with its month's last where the month end is given."""
+    day, kind = int(words[1]), words[0]
+    if kind == "monthend":
+        return reference.last_of_month(day)
+    if kind != "advance":
+        return day
+    total = reference.add(day, words[2], int(words[3]))
+    calendar = reference.Words(" ".join(words[6:])).calendar()
+    at_end = words[2] in "MY" and words[5] == "1" and calendar.at_month_end(day)
+    return reference.last_of_month(total) if at_end else total
+
+
 def judge_small(line, said, own, exception):
     """The Rust's answer is None where it cannot be asked."""
     words, names = line.split(), []
     kind = words[0]
-    expected = reference.answer(line)
+    expected = answered = reference.answer(line)
     agree(expected, own)
+    if kind in MOVED:
+        expected = reference.dated(answered)
     if said is None:
         return "ours = the law, " + (expected if expected.startswith("refused") else "given"), []
     if kind == "ixcount" and said != expected:
@@ -269,6 +286,8 @@ def judge_small(line, said, own, exception):
             raise Differs(f"the Rust: {said}\n    the law with the Rust's step: {step}")
         return "left out", ["the CDS back-step to the wrong month: prev20"]
     if said == expected:
+        if kind in MOVED and int(said) - base(words) != int(answered.split()[1]):
+            raise Differs(f"the Rust: {said}, from {base(words)}\n    the law: {answered}")
         return "same", names
     if expected.startswith("refused"):
         number = int(expected.split()[1])

@@ -98,16 +98,20 @@ class Dates(Refusals):
 class Calendars(Refusals):
     def test_conventions(self) -> None:
         calendar = h.Calendar(h.WEEKENDS)
-        self.assertEqual(calendar.adjust(date(2025, 5, 31), Convention.FOLLOWING), date(2025, 6, 2))
-        self.assertEqual(calendar.adjust(date(2025, 5, 31), Convention.MODIFIED_FOLLOWING), date(2025, 5, 30))
-        self.assertEqual(calendar.month_end(date(2025, 5, 1)), date(2025, 5, 30))
+        self.assertEqual(calendar.adjust(date(2025, 5, 31), Convention.UNADJUSTED), (date(2025, 5, 31), 0))
+        self.assertEqual(calendar.adjust(date(2025, 5, 31), Convention.FOLLOWING), (date(2025, 6, 2), 2))
+        self.assertEqual(calendar.adjust(date(2025, 5, 31), Convention.MODIFIED_FOLLOWING), (date(2025, 5, 30), -1))
+        self.assertEqual(calendar.month_end(date(2025, 5, 15)), h.Moved(date(2025, 5, 30), -1))
+        self.refused("BOOK", calendar.adjust, None, Convention.FOLLOWING)
         self.assertTrue(calendar.is_month_end(date(2025, 5, 30)))
         self.assertFalse(calendar.is_month_end(None))
 
     def test_closed_dates(self) -> None:
         calendar = h.Calendar(h.WEEKENDS, days("2025-04-18", "2025-04-21"))
         self.assertFalse(calendar.is_open(date(2025, 4, 18)))
-        self.assertEqual(calendar.advance(date(2025, 4, 17), 1, Unit.DAYS), date(2025, 4, 22))
+        self.assertEqual(calendar.advance(date(2025, 4, 17), 1, Unit.DAYS), (date(2025, 4, 22), 4))
+        self.assertEqual(calendar.advance(date(2025, 4, 22), -1, Unit.DAYS), (date(2025, 4, 17), -4))
+        self.assertEqual(calendar.advance(date(2025, 2, 28), 1, Unit.MONTHS, monthend=True), (date(2025, 3, 31), 0))
         self.refused("TENOR", calendar.advance, date(2025, 4, 17), 367, Unit.DAYS)
 
     def test_a_desk_over_the_house(self) -> None:
@@ -119,10 +123,10 @@ class Calendars(Refusals):
         self.refused("BOOK", calendar.run, 1799)
         self.refused("BOOK", calendar.check, 2400)
         self.assertIsNone(calendar.check(1800))
-        self.assertEqual(calendar.adjust(date(2025, 12, 25), Convention.FOLLOWING), date(2025, 12, 26))
-        self.assertEqual(h.DeskCalendar(h.WEEKENDS, (), house).adjust(date(2025, 12, 25), Convention.FOLLOWING), date(2025, 12, 29))
+        self.assertEqual(calendar.adjust(date(2025, 12, 25), Convention.FOLLOWING), (date(2025, 12, 26), 1))
+        self.assertEqual(h.DeskCalendar(h.WEEKENDS, (), house).adjust(date(2025, 12, 25), Convention.FOLLOWING), (date(2025, 12, 29), 4))
         at_end = h.DeskCalendar(h.WEEKENDS, days("2025-12-31"), house)
-        self.assertEqual(at_end.adjust(date(2025, 12, 31), Convention.FOLLOWING), date(2026, 1, 5))
+        self.assertEqual(at_end.adjust(date(2025, 12, 31), Convention.FOLLOWING), (date(2026, 1, 5), 5))
         self.refused("CALENDAR", h.DeskCalendar, 0, days("2025-12-25"), days("2025-12-26", "2025-12-25"))
 
     def test_a_desk_and_the_house_as_one_calendar(self) -> None:
@@ -133,7 +137,7 @@ class Calendars(Refusals):
         for back in range(40):
             day = date(2026, 1, 10) - timedelta(back)
             self.assertEqual(one.adjust(day, Convention.FOLLOWING), calendar.adjust(day, Convention.FOLLOWING))
-        self.assertEqual(one.advance(date(2025, 12, 24), 2, Unit.DAYS), date(2025, 12, 29))
+        self.assertEqual(one.advance(date(2025, 12, 24), 2, Unit.DAYS), (date(2025, 12, 29), 3))
         self.assertEqual(h.DeskCalendar(0, (), house).combined().closed, tuple(house))
         self.assertEqual(h.DeskCalendar(0, house).combined(4).closed, tuple(house))
         at_end = h.DeskCalendar(0, days("2025-12-31"), days("2024-12-31", "2025-01-01", "2025-12-30", "2026-01-01"))

@@ -271,6 +271,20 @@ pub fn times(tenor: i32, unit: Unit, count: i32) -> Answer<i32> {
     Ok(out[0])
 }
 
+/// A date, and how many days it moved, later being positive.
+#[derive(Clone, Copy, Debug, PartialEq, Eq)]
+pub struct Moved {
+    pub date: Date,
+    pub days: i32,
+}
+
+/// What a function answers that is lent a list of one place for the days.
+fn moved(ask: impl FnOnce(*mut i32, usize) -> i64) -> Answer<Moved> {
+    let mut days = [0];
+    let date = day(ask(days.as_mut_ptr(), days.len()))?;
+    Ok(Moved { date, days: days[0] })
+}
+
 /// Weekly closed days, Monday the lowest bit of the mask, and closed dates in ascending order.
 #[derive(Clone, Debug, Default, PartialEq, Eq)]
 pub struct Calendar {
@@ -299,15 +313,19 @@ impl Calendar {
         truth(unsafe { ffi::heronspan_is_open(date.0, self.mask, list, len) })
     }
 
-    pub fn adjust(&self, date: Date, convention: Convention) -> Answer<Date> {
+    pub fn adjust(&self, date: Date, convention: Convention) -> Answer<Moved> {
         let (list, len) = self.lent();
-        day(unsafe { ffi::heronspan_adjust(date.0, convention as u8, self.mask, list, len) })
+        moved(|days, places| unsafe {
+            ffi::heronspan_adjust(date.0, convention as u8, self.mask, list, len, days, places)
+        })
     }
 
-    /// The last open day of the date's month.
-    pub fn month_end(&self, date: Date) -> Answer<Date> {
+    /// The last open day of the date's month, moved from the month's last day.
+    pub fn month_end(&self, date: Date) -> Answer<Moved> {
         let (list, len) = self.lent();
-        day(unsafe { ffi::heronspan_calendar_month_end(date.0, self.mask, list, len) })
+        moved(|days, places| unsafe {
+            ffi::heronspan_calendar_month_end(date.0, self.mask, list, len, days, places)
+        })
     }
 
     /// Whether the date is the last open day of its month, or after it. No date is not.
@@ -316,10 +334,11 @@ impl Calendar {
         truth(unsafe { ffi::heronspan_is_month_end(date.0, self.mask, list, len) })
     }
 
-    /// The date moved by the tenor: days are open days, the other units are added and adjusted.
-    pub fn advance(&self, date: Date, tenor: i32, unit: Unit, convention: Convention, monthend: bool) -> Answer<Date> {
+    /// The date moved by the tenor: days are open days, the other units are added and adjusted. The days are those from the sum, of natural
+    /// days for open ones, or from its month's last day where the month end is given.
+    pub fn advance(&self, date: Date, tenor: i32, unit: Unit, convention: Convention, monthend: bool) -> Answer<Moved> {
         let (list, len) = self.lent();
-        day(unsafe {
+        moved(|days, places| unsafe {
             ffi::heronspan_calendar_advance(
                 date.0,
                 tenor,
@@ -329,6 +348,8 @@ impl Calendar {
                 self.mask,
                 list,
                 len,
+                days,
+                places,
             )
         })
     }
@@ -444,9 +465,9 @@ impl<'a> DeskCalendar<'a> {
     }
 
     /// The date adjusted, each day that is tried open or closed by the run of its own year.
-    pub fn adjust(&self, date: Date, convention: Convention) -> Answer<Date> {
+    pub fn adjust(&self, date: Date, convention: Convention) -> Answer<Moved> {
         let (desk, house) = (self.desk, self.house);
-        day(unsafe {
+        moved(|days, places| unsafe {
             ffi::heronspan_desk_adjust(
                 date.0,
                 convention as u8,
@@ -455,6 +476,8 @@ impl<'a> DeskCalendar<'a> {
                 desk.len(),
                 house.as_ptr().cast(),
                 house.len(),
+                days,
+                places,
             )
         })
     }
