@@ -133,7 +133,7 @@ module _ (opens : ℕ → Bool) where
   within-thirty false day new h = let n = following-on day new h in (n .1, omega (arith, n .0))
   within-thirty true day new h = let n = preceding-back day new h in (omega (arith, n .0), n .1)
 
-  searched-open : (convention : Convention) (day new : ℕ) → searches convention ≡ true → adjusted opens convention day ≡ given new → opens new ≡ true
+  pub searched-open : (convention : Convention) (day new : ℕ) → searches convention ≡ true → adjusted opens convention day ≡ given new → opens new ≡ true
   unfolding adjusted
   searched-open convention day new k h =
       let n = need-given BOOK (inSpan day) (byConvention opens convention day) new h in

@@ -22,7 +22,7 @@ pub apart-less : (a b : ℕ) → a ≤ b → apart a b ≡ b - a
 unfolding apart
 apart-less a b h = omega arith
 
-none-beside : (ps : List ℕ) → farthest ps [] ≡ 0
+pub none-beside : (ps : List ℕ) → farthest ps [] ≡ 0
 unfolding farthest
 none-beside [] = refl
 none-beside (p ∷ ps) = refl
