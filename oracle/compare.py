@@ -20,6 +20,9 @@ conventions and end of month an accepted build's unadjusted dates are its dates;
 request so asked (`unmoved`), where no candidate was skipped or changed, nothing merged in either, and both have as many dates.
 Outcomes say which builds were held to that, "third list too".
 
+Nor has it moves. Ours and the law must agree on the days that a date moved, and where the Rust answers the same date, they are that date less
+the day that it moved from (`base`).
+
 Demand 2's exception is a test of a question: it asks for the previous twentieth, or a build with CDS or CDS2015 in force, and
 the Rust's previous twentieth of the day is another than the law's. Its outcomes begin "left out"; ours is held to the law there
 as everywhere, and the Rust to the law with the Rust's step back.
