@@ -27,7 +27,7 @@ extern "C" {
 
 /* ---- refusals; made by tools/refusals.py: numbers */
 enum {
-    HERONSPAN_UNEVEN = 1,           /* the lists of dates and flags differ in length */
+    HERONSPAN_UNEVEN = 1,           /* the lent lists of a schedule differ in length */
     HERONSPAN_BOOK = 2,             /* a date outside the book, a result outside 1800 to 2399, or no such day */
     HERONSPAN_CALENDAR = 3,         /* all seven days closed, or the closed dates break their rule */
     HERONSPAN_NEGATIVE = 4,         /* a tenor below 0 (builds) */

@@ -30,7 +30,7 @@ __all__ = [
 
 class Refusal(IntEnum):
     # made by tools/refusals.py: numbers
-    UNEVEN = 1  # the lists of dates and flags differ in length
+    UNEVEN = 1  # the lent lists of a schedule differ in length
     BOOK = 2  # a date outside the book, a result outside 1800 to 2399, or no such day
     CALENDAR = 3  # all seven days closed, or the closed dates break their rule
     NEGATIVE = 4  # a tenor below 0 (builds)

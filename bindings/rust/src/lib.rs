@@ -14,7 +14,7 @@ use std::io;
 #[repr(u8)]
 pub enum Refusal {
     // made by tools/refusals.py: numbers
-    /// The lists of dates and flags differ in length.
+    /// The lent lists of a schedule differ in length.
     Uneven = 1,
     /// A date outside the book, a result outside 1800 to 2399, or no such day.
     Book = 2,

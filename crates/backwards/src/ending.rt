@@ -1,10 +1,11 @@
 // The last dates of a backward build: the first date where the loop ended at it, and the effective date.
 ghost use mathlib.Core.Bool.{true};
+ghost use Rattle.calendar.specs.Adjust.{adjusted};
 ghost use Rattle.steps.specs.Generate.{ended, backwardEnd};
 ghost use Rattle.working.specs.Part.{working, held};
-ghost use Rattle.working.specs.Turning.{Ahead};
+ghost use Rattle.working.specs.Turning.{Looped};
 ghost use Rattle.working.specs.Adding.{Adds};
-ghost use Rattle.working.specs.Making.{Ends, LiesBack};
+ghost use Rattle.working.specs.Making.{Makes};
 use steps::Request;
 use working::Adjusting;
 use working::Generated;
@@ -22,9 +23,10 @@ fn end(
     tip: Tip,
     room: usize,
     work: &mut [u32],
+    paid: &mut [u32],
     marks: &mut [u8],
 ) -> Added
-    ensures { λ r. ⌜ Adds (Ahead (q .mask) (now (closed .entry)) (q .convention) true room) true (ended q (now (closed .entry)) room) tip (working (now (work .entry)) (now (marks .entry))) r (working (now (work .exit)) (now (marks .exit))) ⌝ }
+    ensures { λ r. ⌜ Adds (Looped (q .mask) (now (closed .entry)) (q .convention) true room) true (ended q (now (closed .entry)) room) tip (working (now (work .entry)) (now (marks .entry))) (now (paid .entry)) r (working (now (work .exit)) (now (marks .exit))) (now (paid .exit)) ⌝ }
 {
     let convention = q.convention;
     let adjusting = Adjusting {
@@ -39,6 +41,7 @@ fn end(
         adjusting,
         closed,
         work,
+        paid,
         marks,
     ) {
         Added::Refused(k) => return Added::Refused(k),
@@ -52,6 +55,7 @@ fn end(
         adjusting,
         closed,
         work,
+        paid,
         marks,
     )
 }
@@ -64,11 +68,12 @@ pub(crate) fn backward_end(
     room: usize,
     round: Round,
     work: &mut [u32],
+    paid: &mut [u32],
     marks: &mut [u8],
 ) -> Generated
-    ensures { λ r. ⌜ Ends (Ahead (q .mask) (now (closed .entry)) (q .convention) true room (working (now (work .entry)) (now (marks .entry))) tip) (LiesBack room (round .start) (tip .n) (working (now (work .exit)) (now (marks .exit)))) (backwardEnd q (now (closed .entry)) room (round .tries) (round .seed) (held true (tip .n) (working (now (work .entry)) (now (marks .entry))))) r (working (now (work .exit)) (now (marks .exit))) ⌝ }
+    ensures { λ r. ⌜ Makes (Looped (q .mask) (now (closed .entry)) (q .convention) true room (working (now (work .entry)) (now (marks .entry))) (now (paid .entry)) tip) (adjusted (q .mask) (now (closed .entry)) (q .convention)) room (backwardEnd q (now (closed .entry)) room (round .tries) (round .seed) (held true (tip .n) (working (now (work .entry)) (now (marks .entry))))) r (working (now (work .exit)) (now (marks .exit))) (now (paid .exit)) ⌝ }
 {
-    let last = match end(q, closed, tip, room, work, marks) {
+    let last = match end(q, closed, tip, room, work, paid, marks) {
         Added::Refused(k) => return Generated::Refused(k),
         Added::Ready(t) => t,
     };
@@ -77,8 +82,8 @@ pub(crate) fn backward_end(
         from,
         marked: from,
         n: last.n,
-        known: lists::surplus(last.n, tip.n),
-        beyond: lists::surplus(last.n, round.start),
+        known: 0,
+        beyond: lists::surplus(last.n, last.start),
         tries: round.tries,
         seed: round.seed,
     })

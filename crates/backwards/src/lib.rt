@@ -53,12 +53,8 @@ fn backward_from(
     match walked {
         Walked::Refused(k) => Generated::Refused(k),
         Walked::Ready { tip, tries } => {
-            let round = Round {
-                start: n,
-                tries,
-                seed: day,
-            };
-            ending::backward_end(q, closed, tip, room, round, work, marks)
+            let round = Round { tries, seed: day };
+            ending::backward_end(q, closed, tip, room, round, work, paid, marks)
         }
     }
 }

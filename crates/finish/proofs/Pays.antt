@@ -23,21 +23,22 @@ use Rattle.calendar.specs.Inner.Always.{conventionOn, on-as}
 use Rattle.calendar.specs.Adjust.{adjusted}
 use Rattle.calendar.specs.Calendar.{decided}
 use Rattle.steps.specs.declared.Move.{Move}
+use Rattle.steps.specs.declared.Move.the-variants.{Stay, Adjust}
 use Rattle.steps.specs.declared.Rule.{Rule}
 use Rattle.steps.specs.declared.Rule.the-variants.{ThirdWednesday, ThirdWednesdayInclusive}
 use Rattle.steps.proofs.Rule.{the-type}
 use Rattle.steps.specs.Laws.Rules.{agree, keep, keysOf, tagsAre, told}
 use Rattle.steps.specs.declared.Request.{Request}
-use Rattle.steps.specs.Rules.{rules, ruleNumber, oneOf, ruleInForce}
-use Rattle.steps.specs.Finish.{each, moved, onLast, firstMove, lastMove, middleMove, seedAtEnd, adjustments, wednesdaysBy, wednesdays}
+use Rattle.steps.specs.Rules.{rules, ruleNumber, oneOf, ruleInForce, isOldCDS}
+use Rattle.steps.specs.Finish.{each, moved, onLast, unless, firstMove, lastMove, middleMove, seedAtEnd, adjustments, wednesdaysBy, wednesdays}
 use Rattle.steps.specs.Entries.{Pairs, pairsOf}
 use Rattle.steps.specs.Laws.Parts.{each-moved, moved-on, as-many}
 use Rattle.finish.specs.declared.Paid.{Paid}
 use Rattle.finish.specs.declared.moving.Done.{Done}
 use Rattle.finish.specs.declared.moving.Done.the-variants.{Whole, Refused}
 use Rattle.finish.specs.Moving.{done, paired}
-use Rattle.finish.specs.Paying.{payBetween, PaidAlready, Narrowed, paidIf, stillPaid, payLastOf, payLast, payMiddle, paying}
-use Rattle.finish.specs.Laws.Paying.{pay-around, paying-is}
+use Rattle.finish.specs.Paying.{payBetween, PaidAlready, Narrowed, FirstPaid, LastPaid, LastKept, paidIf, stillPaid, payLastOf, payLast, payMiddle, paying}
+use Rattle.finish.specs.Laws.Paying.{paid-stays, pay-around, paying-is}
 use Rattle.finish.proofs.Moves.{done-refused, done-on}
 
 -- ---- which of the middle dates are paid
@@ -77,22 +78,21 @@ front-part (x ∷ l) zero (suc k) m h = let bad : ⊥ = omega arith in absurd ba
 front-part (x ∷ l) (suc n) (suc k) m h = front-part l n k m (omega arith)
 
 module _ (f : ℕ → Answer ℕ) (ds ps : List ℕ) where
+  part-paid : (a b c d : ℕ) → a ≤ c → c ≤ d → d ≤ b → PaidAlready f a b ds ps → PaidAlready f c d ds ps
+  part-paid a b c d ac cd db p =
+      let k : a + (c - a) ≡ c = omega arith in
+      let fits : (c - a) + (d - c) ≤ b - a = omega arith in
+      let part = each-take f (drop (c - a) (take (b - a) (drop a ds))) (drop (c - a) (take (b - a) (drop a ps))) (d - c) (each-drop f (take (b - a) (drop a ds)) (take (b - a) (drop a ps)) (c - a) (p .so)) in
+      record {
+        so = rw (front-part (drop a ds) (b - a) (c - a) (d - c) fits, front-part (drop a ps) (b - a) (c - a) (d - c) fits, drop-drop (c - a) a ds, drop-drop (c - a) a ps, k) at part;
+      }
+
   pub narrowed-paid : (n : ℕ) (known r : Paid) → PaidAlready f (known .from) (known .to) ds ps → Narrowed n known r → PaidAlready f (r .from) (r .to) ds ps
   unfolding each
-  narrowed-paid n known r p w = ⊎-elim none some (w .among)
+  narrowed-paid n known r p w = ⊎-elim none (λ b. part-paid (known .from) (known .to) (r .from) (r .to) (b .0) (w .order) (b .1) p) (w .among)
     where
       none : r .from ≡ r .to → PaidAlready f (r .from) (r .to) ds ps
       none e = let z : r .to - r .from ≡ 0 = omega arith in record { so = rw z refl }
-
-      some : (known .from ≤ r .from) × (r .to ≤ known .to) → PaidAlready f (r .from) (r .to) ds ps
-      some b =
-          let o = w .order in
-          let k : known .from + (r .from - known .from) ≡ r .from = omega (arith, b .0) in
-          let fits : (r .from - known .from) + (r .to - r .from) ≤ known .to - known .from = omega (arith, b .0, b .1) in
-          let part = each-take f (drop (r .from - known .from) (take (known .to - known .from) (drop (known .from) ds))) (drop (r .from - known .from) (take (known .to - known .from) (drop (known .from) ps))) (r .to - r .from) (each-drop f (take (known .to - known .from) (drop (known .from) ds)) (take (known .to - known .from) (drop (known .from) ps)) (r .from - known .from) (p .so)) in
-          record {
-            so = rw (front-part (drop (known .from) ds) (known .to - known .from) (r .from - known .from) (r .to - r .from) fits, front-part (drop (known .from) ps) (known .to - known .from) (r .from - known .from) (r .to - r .from) fits, drop-drop (r .from - known .from) (known .from) ds, drop-drop (r .from - known .from) (known .from) ps, k) at part;
-          }
 
 -- ---- they stay paid while the ends are
 paid-by : (f : ℕ → Answer ℕ) (a b : ℕ) (ds ps ps′ : List ℕ) → take (b - a) (drop a ps′) ≡ take (b - a) (drop a ps) → PaidAlready f a b ds ps → PaidAlready f a b ds ps′
@@ -188,6 +188,30 @@ module _ (q : Request) (closed : List ℕ) (seed : ℕ) (work paid : List ℕ) (
         rw (← p ok, e) (h ∙ ap (λ (g : ℕ → Answer ℕ). payBetween g 1 (1 + (length work - 2)) work paid) (alike ∙ sym (as-adjusted (q .mask) closed (q .convention))))
 
 -- ---- the last date
+adjusts : (mask : ℕ) (closed : List ℕ) (convention : Convention) (what : Move) → what ≡ Adjust convention → moved mask closed what ≡ adjusted mask closed convention
+unfolding moved
+adjusts mask closed convention what e = rw e refl
+
+pub last-paid : (what : Move) (terminal convention : Convention) (known : Paid) (n : ℕ) → what ≡ Adjust terminal → terminal ≡ convention → known .from < n → n ≤ known .to → LastPaid convention what known n
+last-paid what terminal convention known n e s from to = record { from = from; to = to; moves = e ∙ ap Adjust s }
+
+-- the first date that is filled in leaves the last
+pub last-kept : (f g : ℕ → Answer ℕ) (known : Paid) (ds ps ps′ : List ℕ) → length ds ≡ length ps → given ps′ ≡ payBetween g 0 1 ds ps → PaidAlready f (known .from) (known .to) ds ps → LastKept f known ds ps′
+last-kept f g known ds ps ps′ even e p =
+    record {
+      kept =
+          λ from to two. after-first f g (length ds - 1) (length ds) ds ps ps′ even (omega arith) (omega arith) e (part-paid f ds ps (known .from) (known .to) (length ds - 1) (length ds) (omega arith) (omega arith) to p);
+    }
+
+pub last-stays : (q : Request) (closed work paid : List ℕ) (what : Move) → what ≡ lastMove q → (known : Paid) → (length work ≡ 1 → ⊥) → 1 ≤ length work → length work ≡ length paid → LastPaid (q .convention) what known (length work) → LastKept (adjusted (q .mask) closed (q .convention)) known work paid → done Whole paid ≡ payLast q closed work paid
+unfolding payLast payLastOf done
+last-stays q closed work paid what w known e some even l k =
+    let p = k .kept (l .from) (l .to) (omega (arith, e)) in
+    let stays = paid-stays _ work paid 0 (length work - 1) (length work) (omega arith) (omega arith) (omega arith) even p in
+    let alike : moved (q .mask) closed what ≡ adjusted (q .mask) closed (q .convention) = adjusts (q .mask) closed (q .convention) what (l .moves) in
+    rw (ne-eqb (length work) 1 e, ← w)
+    (sym (ap (λ (g : ℕ → Answer ℕ). payBetween g (length work - 1) (length work) work paid) alike ∙ stays))
+
 module _ (q : Request) (closed work paid : List ℕ) (what : Move) (w : what ≡ lastMove q) (r : Done) (paid₁ : List ℕ) where
   pub last-alone : length work ≡ 1 → done r paid₁ ≡ onLast (moved (q .mask) closed what) paid → done r paid₁ ≡ payLast q closed work paid
   unfolding payLast payLastOf
@@ -197,29 +221,56 @@ module _ (q : Request) (closed work paid : List ℕ) (what : Move) (w : what ≡
   unfolding payLast payLastOf
   last-of-many e h = rw (ne-eqb (length work) 1 e, ← w) h
 
+-- ---- the first date
+-- a first date that is moved is adjusted
+unless-adjusts : (mask : ℕ) (closed : List ℕ) (stays : Bool) (convention : Convention) → (unless stays convention ≡ Stay → ⊥) → moved mask closed (unless stays convention) ≡ adjusted mask closed convention
+unfolding unless moved
+unless-adjusts mask closed true convention h = absurd (h refl)
+unless-adjusts mask closed false convention h = refl
+
+pub first-paid : (what : Move) (convention : Convention) (known : Paid) → what ≡ Adjust convention → known .from ≡ 0 → 0 < known .to → FirstPaid what known
+first-paid what convention known e from some =
+    record { from = from; some = omega arith; moves = λ h. let z : _≡_ {A = ℕ} 0 1 = cc in omega arith }
+
+module _ (q : Request) (closed work paid : List ℕ) (some : 1 ≤ length work) (even : length work ≡ length paid) (what : Move) (w : what ≡ firstMove q) where
+  pub first-stays : (known : Paid) → FirstPaid what known → PaidAlready (adjusted (q .mask) closed (q .convention)) (known .from) (known .to) work paid → done Whole paid ≡ payBetween (moved (q .mask) closed (firstMove q)) 0 1 work paid
+  unfolding done firstMove
+  first-stays known f p =
+      let e = unless-adjusts (q .mask) closed (isOldCDS (ruleInForce q)) (q .convention) (λ h. f .moves (w ∙ h)) in
+      let from = f .from in
+      let one = part-paid _ work paid (known .from) (known .to) 0 1 (omega arith) (omega arith) (f .some) p in
+      rw e (sym (paid-stays _ work paid 0 0 1 (omega arith) (omega arith) some even one))
+
+  pub first-moves : (r : Done) (paid₁ : List ℕ) → done r paid₁ ≡ payBetween (moved (q .mask) closed what) 0 1 work paid → done r paid₁ ≡ payBetween (moved (q .mask) closed (firstMove q)) 0 1 work paid
+  first-moves r paid₁ d = rw w at d
+
 -- ---- all of them
-module _ (q : Request) (closed : List ℕ) (seed : ℕ) (work paid : List ℕ) (some : 1 ≤ length work) (even : length work ≡ length paid) (what : Move) (w : what ≡ firstMove q) (r : Done) (paid₁ : List ℕ) (d : done r paid₁ ≡ payBetween (moved (q .mask) closed what) 0 1 work paid) where
+module _ (q : Request) (closed : List ℕ) (seed : ℕ) (work paid : List ℕ) (some : 1 ≤ length work) (even : length work ≡ length paid) (r : Done) (paid₁ : List ℕ) (d : done r paid₁ ≡ payBetween (moved (q .mask) closed (firstMove q)) 0 1 work paid) where
   whole : paying q closed seed work paid ≡ adjustments q closed seed work
   whole = paying-is q closed seed work paid some even
 
   pub dates-refused : (n : ℕ) (paid₂ : List ℕ) → r ≡ Refused n → done (Refused n) paid₂ ≡ adjustments q closed seed work
   unfolding done paying
-  dates-refused n paid₂ e = done-refused _ _ r paid₁ (rw w at d) n e ∙ whole
+  dates-refused n paid₂ e = done-refused _ _ r paid₁ d n e ∙ whole
+
+  pub dates-kept : (f : ℕ → Answer ℕ) (known : Paid) → r ≡ Whole → PaidAlready f (known .from) (known .to) work paid → LastKept f known work paid₁
+  unfolding done
+  dates-kept f known e p = last-kept f (moved (q .mask) closed (firstMove q)) known work paid paid₁ even (rw e at d) p
 
   module _ (e : r ≡ Whole) (t : Done) (paid₂ : List ℕ) (l : done t paid₂ ≡ payLast q closed work paid₁) where
     pub dates-last-refused : (n : ℕ) (paid₃ : List ℕ) → t ≡ Refused n → done (Refused n) paid₃ ≡ adjustments q closed seed work
     unfolding done paying
-    dates-last-refused n paid₃ h = done-on _ _ r paid₁ (rw w at d) _ e (done-refused (payMiddle q closed seed work) _ t paid₂ l n h) ∙ whole
+    dates-last-refused n paid₃ h = done-on _ _ r paid₁ d _ e (done-refused (payMiddle q closed seed work) _ t paid₂ l n h) ∙ whole
 
     pub dates-on : (u : Done) (paid₃ : List ℕ) → t ≡ Whole → done u paid₃ ≡ payMiddle q closed seed work paid₂ → done u paid₃ ≡ adjustments q closed seed work
     unfolding paying
-    dates-on u paid₃ h m = done-on _ _ r paid₁ (rw w at d) _ e (done-on (payMiddle q closed seed work) _ t paid₂ l _ h m) ∙ whole
+    dates-on u paid₃ h m = done-on _ _ r paid₁ d _ e (done-on (payMiddle q closed seed work) _ t paid₂ l _ h m) ∙ whole
 
     -- those that were paid still are
     pub among-paid : (n : ℕ) (known among : Paid) → t ≡ Whole → n ≡ length work → Narrowed n known among → length paid₁ ≡ length paid → (f : ℕ → Answer ℕ) → PaidAlready f (known .from) (known .to) work paid → PaidAlready f (among .from) (among .to) work paid₂
     unfolding done
     among-paid n known among h size narrow long f p =
-        let one : given paid₁ ≡ payBetween (moved (q .mask) closed what) 0 1 work paid = rw e at d in
+        let one : given paid₁ ≡ payBetween (moved (q .mask) closed (firstMove q)) 0 1 work paid = rw e at d in
         let two : given paid₂ ≡ payLast q closed work paid₁ = rw h at l in
         let a = narrowed-paid f work paid n known among p narrow in
         let b = after-first f _ (among .from) (among .to) work paid paid₁ even some (narrow .first) one a in

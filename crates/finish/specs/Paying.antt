@@ -1,6 +1,6 @@
 -- Paid dates filled in beside the generated ones, from a place up to another.
 -- Assumes nothing.
-use Prim.Native.Nat.{ℕ, _+_, _-_, _≤_}
+use Prim.Native.Nat.{ℕ, _+_, _-_, _≤_, _<_}
 use mathlib.Core.Path.{_≡_}
 use mathlib.Core.Bool.{Bool, true, false, _||_}
 use mathlib.Core.List.{List, [], _∷_, _++_}
@@ -8,6 +8,9 @@ use lib.Dec.{eqb}
 use mathlib.Core.Logic.{_⊎_}
 use lib.ListN.{length, take, drop}
 use Rattle.refusal.specs.Answer.{Answer, given, then}
+use Rattle.calendar.specs.declared.Convention.{Convention}
+use Rattle.steps.specs.declared.Move.{Move}
+use Rattle.steps.specs.declared.Move.the-variants.{Stay, Adjust}
 use Rattle.steps.specs.declared.Rule.{Rule}
 use Rattle.steps.specs.declared.Rule.the-variants.{ThirdWednesday, ThirdWednesdayInclusive}
 use Rattle.steps.specs.declared.Request.{Request}
@@ -29,6 +32,22 @@ pub record Narrowed (n : ℕ) (known r : Paid) : Type 0 where
   pub order : r .from ≤ r .to
   pub last : r .to ≤ 1 + (n - 2)
   pub among : (r .from ≡ r .to) ⊎ ((known .from ≤ r .from) × (r .to ≤ known .to))
+
+-- the first date is paid, and not left alone
+pub record FirstPaid (what : Move) (known : Paid) : Type 0 where
+  pub from : known .from ≡ 0
+  pub some : 1 ≤ known .to
+  pub moves : what ≡ Stay → ⊥
+
+-- the last of n dates is paid, by the convention that it is moved by
+pub record LastPaid (convention : Convention) (what : Move) (known : Paid) (n : ℕ) : Type 0 where
+  pub from : known .from < n
+  pub to : n ≤ known .to
+  pub moves : what ≡ Adjust convention
+
+-- and stays so while the first is filled in, if there are two dates and more
+pub record LastKept (f : ℕ → Answer ℕ) (known : Paid) (ds ps : List ℕ) : Type 0 where
+  pub kept : known .from < length ds → length ds ≤ known .to → 2 ≤ length ds → PaidAlready f (length ds - 1) (length ds) ds ps
 
 -- under a rule that moves dates to third Wednesdays none is paid yet
 unfoldable pub paidIf : Bool → Paid → Paid

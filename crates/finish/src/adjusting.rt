@@ -5,13 +5,14 @@ ghost use Prim.Native.Nat.{_+_, _-_, _≤_, min, max};
 ghost use lib.ListN.{length};
 ghost use Rattle.calendar.specs.Open.{closedOk};
 ghost use Rattle.calendar.specs.Adjust.{adjusted};
-ghost use Rattle.steps.specs.Finish.{moved, onLast, onMiddle, wednesdays, adjustments};
+ghost use Rattle.steps.specs.Finish.{moved, onLast, onMiddle, firstMove, wednesdays, adjustments};
 ghost use Rattle.steps.specs.Entries.{pairsOf};
 ghost use Rattle.finish.specs.Moving.{done, paired};
-ghost use Rattle.finish.specs.Paying.{payBetween, PaidAlready, Narrowed, stillPaid, payLast, payMiddle};
+ghost use Rattle.finish.specs.Paying.{payBetween, PaidAlready, Narrowed, FirstPaid, LastPaid, LastKept, stillPaid, payLast, payMiddle};
 use crate::Paid;
 use crate::moving;
 use crate::moving::Done;
+use calendar::Convention;
 use calendar::Decided;
 use calendar::search;
 use steps::Move;
@@ -156,17 +157,88 @@ fn pay_middle(
     }
 }
 
-// The last date; where there is one date alone, what the first adjustment made of it.
-fn pay_last(q: Request, closed: &[u32], work: &[u32], paid: &mut [u32]) -> Done
+fn is_same(a: Convention, b: Convention) -> bool
+    ensures { λ r. ⌜ (r ≡ true → a ≡ b) ⌝ }
+{
+    match a {
+        Convention::Unadjusted => match b {
+            Convention::Unadjusted => true,
+            _ => false,
+        },
+        Convention::Following => match b {
+            Convention::Following => true,
+            _ => false,
+        },
+        Convention::ModifiedFollowing => match b {
+            Convention::ModifiedFollowing => true,
+            _ => false,
+        },
+        Convention::Preceding => match b {
+            Convention::Preceding => true,
+            _ => false,
+        },
+        Convention::ModifiedPreceding => match b {
+            Convention::ModifiedPreceding => true,
+            _ => false,
+        },
+    }
+}
+
+// Whether the last of n dates, if it is moved so, stands among those that are paid by the convention.
+fn is_last_paid(convention: Convention, what: Move, known: Paid, n: usize) -> bool
+    ensures { λ r. ⌜ (r ≡ true → LastPaid convention what known n) ⌝ }
+{
+    match what {
+        Move::Adjust(terminal) => {
+            if n <= known.from {
+                return false;
+            }
+            if known.to < n {
+                return false;
+            }
+            is_same(terminal, convention)
+        }
+        _ => false,
+    }
+}
+
+// The last date, unless it is paid; where there is one date alone, what the first adjustment made of it.
+fn pay_last(q: Request, closed: &[u32], known: Paid, work: &[u32], paid: &mut [u32]) -> Done
     requires { ⌜ (1 ≤ length (now work)) × (length (now work) ≡ length (now paid)) ⌝ }
-    ensures { λ r. ⌜ (closedOk (now (closed .entry)) ≡ true → done r (now (paid .exit)) ≡ payLast q (now (closed .entry)) (now (work .entry)) (now (paid .entry))) ⌝ }
+    ensures { λ r. ⌜ (closedOk (now (closed .entry)) ≡ true → LastKept (adjusted (q .mask) (now (closed .entry)) (q .convention)) known (now (work .entry)) (now (paid .entry)) → done r (now (paid .exit)) ≡ payLast q (now (closed .entry)) (now (work .entry)) (now (paid .entry))) ⌝ }
 {
     let n = work.len();
     let what = moves::last_move(q);
     if n == 1 {
         return move_last(paid, what, q.mask, closed);
     }
+    let convention = q.convention;
+    if is_last_paid(convention, what, known, n) {
+        return Done::Whole;
+    }
     moving::pay_between(work, paid, n - 1, n, what, q.mask, closed)
+}
+
+// Whether a first date that is moved so stands among the paid ones.
+fn is_first_paid(what: Move, known: Paid) -> bool
+    ensures { λ r. ⌜ (r ≡ true → FirstPaid what known) ⌝ }
+{
+    match what {
+        Move::Adjust(_) => known.from == 0 && 0 < known.to,
+        _ => false,
+    }
+}
+
+// The first date, unless it is paid.
+fn pay_first(q: Request, closed: &[u32], known: Paid, work: &[u32], paid: &mut [u32]) -> Done
+    requires { ⌜ (1 ≤ length (now work)) × (length (now work) ≡ length (now paid)) ⌝ }
+    ensures { λ r. ⌜ (closedOk (now (closed .entry)) ≡ true → PaidAlready (adjusted (q .mask) (now (closed .entry)) (q .convention)) (known .from) (known .to) (now (work .entry)) (now (paid .entry)) → done r (now (paid .exit)) ≡ payBetween (moved (q .mask) (now (closed .entry)) (firstMove q)) 0 1 (now (work .entry)) (now (paid .entry))) ⌝ }
+{
+    let what = moves::first_move(q);
+    if is_first_paid(what, known) {
+        return Done::Whole;
+    }
+    moving::pay_between(work, paid, 0, 1, what, q.mask, closed)
 }
 
 // The paid dates of what was generated. Those that are known stay.
@@ -182,11 +254,11 @@ fn pay_dates(
     ensures { λ r. ⌜ (closedOk (now (closed .entry)) ≡ true → PaidAlready (adjusted (q .mask) (now (closed .entry)) (q .convention)) (known .from) (known .to) (now (work .entry)) (now (paid .entry)) → done r (now (paid .exit)) ≡ adjustments q (now (closed .entry)) seed (now (work .entry))) ⌝ }
 {
     let among = narrow(known, work.len());
-    let first = moving::pay_between(work, paid, 0, 1, moves::first_move(q), q.mask, closed);
+    let first = pay_first(q, closed, known, work, paid);
     if let Done::Refused(n) = first {
         return Done::Refused(n);
     }
-    let last = pay_last(q, closed, work, paid);
+    let last = pay_last(q, closed, known, work, paid);
     match last {
         Done::Whole => pay_middle(q, closed, seed, among, work, paid),
         Done::Refused(n) => Done::Refused(n),

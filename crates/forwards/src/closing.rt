@@ -1,9 +1,10 @@
 // The last dates of a forward build: the next-to-last date where the loop ended at it, and termination or its twentieth.
 ghost use mathlib.Core.Bool.{false};
-ghost use Rattle.steps.specs.Generate.{putClosing, closing, shut, forwardEnd};
+ghost use Rattle.calendar.specs.Adjust.{adjusted};
+ghost use Rattle.steps.specs.Generate.{putClosing, closing, forwardEnd};
 ghost use Rattle.working.specs.Part.{working, Part, Begun, held, Fills};
-ghost use Rattle.working.specs.Turning.{Ahead};
-ghost use Rattle.working.specs.Making.{Ends, LiesForth};
+ghost use Rattle.working.specs.Turning.{Looped};
+ghost use Rattle.working.specs.Making.{Makes};
 use calendar::moves;
 use calendar::search;
 use date::Dated;
@@ -62,31 +63,7 @@ fn close(
     put_closing(q, room, n, work, marks)
 }
 
-// The next-to-last date where the loop ended at it, then the last date.
-fn shut(
-    q: Request,
-    closed: &[u32],
-    room: usize,
-    tip: Tip,
-    work: &mut [u32],
-    marks: &mut [u8],
-) -> Filled
-    ensures { λ r. ⌜ Fills (λ _ w. Ahead (q .mask) (now (closed .entry)) (q .convention) false room w tip) false room (shut q (now (closed .entry)) room) (tip .n) (working (now (work .entry)) (now (marks .entry))) r (working (now (work .exit)) (now (marks .exit))) ⌝ }
-{
-    let convention = q.convention;
-    let adjusting = Adjusting {
-        convention,
-        mask: q.mask,
-    };
-    let anchor = q.penultimate.day;
-    let last = match adds::put_anchor(false, room, tip, anchor, adjusting, closed, work, marks) {
-        Added::Refused(k) => return Filled::Refused(k),
-        Added::Ready(t) => t,
-    };
-    close(q, closed, room, last.n, work, marks)
-}
-
-// What is left once the loop has ended.
+// What is left once the loop has ended: the next-to-last date where it ended at it, then the last date.
 pub(crate) fn forward_end(
     q: Request,
     closed: &[u32],
@@ -94,11 +71,31 @@ pub(crate) fn forward_end(
     tip: Tip,
     round: Round,
     work: &mut [u32],
+    paid: &mut [u32],
     marks: &mut [u8],
 ) -> Generated
-    ensures { λ r. ⌜ Ends (Ahead (q .mask) (now (closed .entry)) (q .convention) false room (working (now (work .entry)) (now (marks .entry))) tip) (LiesForth room (round .start) (tip .n) (working (now (work .exit)) (now (marks .exit)))) (forwardEnd q (now (closed .entry)) room (round .tries) (round .seed) (held false (tip .n) (working (now (work .entry)) (now (marks .entry))))) r (working (now (work .exit)) (now (marks .exit))) ⌝ }
+    ensures { λ r. ⌜ Makes (Looped (q .mask) (now (closed .entry)) (q .convention) false room (working (now (work .entry)) (now (marks .entry))) (now (paid .entry)) tip) (adjusted (q .mask) (now (closed .entry)) (q .convention)) room (forwardEnd q (now (closed .entry)) room (round .tries) (round .seed) (held false (tip .n) (working (now (work .entry)) (now (marks .entry))))) r (working (now (work .exit)) (now (marks .exit))) (now (paid .exit)) ⌝ }
 {
-    let n = match shut(q, closed, room, tip, work, marks) {
+    let convention = q.convention;
+    let adjusting = Adjusting {
+        convention,
+        mask: q.mask,
+    };
+    let anchored = match adds::put_anchor(
+        false,
+        room,
+        tip,
+        q.penultimate.day,
+        adjusting,
+        closed,
+        work,
+        paid,
+        marks,
+    ) {
+        Added::Refused(k) => return Generated::Refused(k),
+        Added::Ready(t) => t,
+    };
+    let n = match close(q, closed, room, anchored.n, work, marks) {
         Filled::Refused(k) => return Generated::Refused(k),
         Filled::Ready(n) => n,
     };
@@ -106,8 +103,8 @@ pub(crate) fn forward_end(
         from: 0,
         marked: 1,
         n,
-        known: round.start,
-        beyond: tip.n,
+        known: anchored.start,
+        beyond: anchored.n,
         tries: round.tries,
         seed: round.seed,
     })

@@ -50,12 +50,8 @@ fn forward_from(
     match walked {
         Walked::Refused(k) => Generated::Refused(k),
         Walked::Ready { tip, tries } => {
-            let round = Round {
-                start: n,
-                tries,
-                seed: day,
-            };
-            closing::forward_end(q, closed, room, tip, round, work, marks)
+            let round = Round { tries, seed: day };
+            closing::forward_end(q, closed, room, tip, round, work, paid, marks)
         }
     }
 }

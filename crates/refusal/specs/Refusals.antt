@@ -20,7 +20,7 @@ refusal number name meaning = record { number = number; name = name; meaning = m
 
 unfoldable pub refusals : List Refusal
 refusals =
-    refusal 1 "UNEVEN" "the lists of dates and flags differ in length"
+    refusal 1 "UNEVEN" "the lent lists of a schedule differ in length"
     ∷ refusal 2 "BOOK" "a date outside the book, a result outside 1800 to 2399, or no such day"
     ∷ refusal 3 "CALENDAR" "all seven days closed, or the closed dates break their rule"
     ∷ refusal 4 "NEGATIVE" "a tenor below 0 (builds)"

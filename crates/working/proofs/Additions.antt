@@ -5,7 +5,7 @@ use mathlib.Core.Bool.{Bool, true}
 use mathlib.Core.List.{List}
 use Prim.Native.Nat.{ℕ, zero, suc, _<_}
 use native.Mathlib.Omega.{arith}
-use lib.ListN.{length}
+use lib.ListN.{length, set}
 use borrow.Author.Needs.{needs}
 use borrow.Author.Tests.{eq-eqb, ne-eqb}
 use Rattle.refusal.specs.Answer.{Answer, given, refused}
@@ -25,33 +25,42 @@ use Rattle.working.specs.declared.adds.Added.{Added}
 use Rattle.working.specs.declared.adds.Added.the-variants.{Ready, Refused}
 use Rattle.working.specs.declared.Tip.{Tip}
 use Rattle.working.specs.Step.{does, seen, Kept, gives, refuses, gives-as, was-given, was-refused, was-kept}
-use Rattle.working.specs.Part.{Work, Part, Begun, held, lastDay, filled, Filling, begun}
-use Rattle.working.specs.Held.{newest-read, put-is-newest}
-use Rattle.working.specs.Turning.{Front, Ahead}
-use Rattle.working.specs.Adding.{added, Adding, PutFront}
+use Rattle.working.specs.Part.{Work, Part, Begun, held, lastDay, placeOf, filled, Filling, begun}
+use Rattle.working.specs.Held.{newest-read, put-is-newest, put-dates, put-counts}
+use Rattle.working.specs.Turning.{Front, Ahead, Looped}
+use Rattle.working.specs.Paying.{Paid}
+use Rattle.working.specs.Adding.{added, Adding, Stood, PutFront}
+use Rattle.working.proofs.Puts.{paid-more}
 
 -- ---- a date put, with what is known of it
-module _ (back : Bool) (room known : ℕ) (o : Answer Lists) (f : Filled) (w : Work) (p : Filling back room o f w) where
-  pub stood-ready : (n : ℕ) → f ≡ filled-is.Ready n → PutFront back room known o (Ready (record { n = n; front = known })) w
+module _ (back : Bool) {room : ℕ} (tip : Tip) (day known : ℕ) (paid : List ℕ) {w : Work} (part : Part room (tip .n) w) (f : Filled) (w′ : Work) (p : Filling back room (put room day 0 (held back (tip .n) w)) f w′) where
+  pub stood-ready : (n : ℕ) → f ≡ filled-is.Ready n → (paid′ : List ℕ) → length paid ≡ 4096 → (length paid ≡ 4096 → tip .n < 4096 → paid′ ≡ set paid (placeOf back (tip .n)) known) → PutFront back room tip known paid (put room day 0 (held back (tip .n) w)) (Ready (record { n = n; start = tip .start; front = known })) w′ paid′
   unfolding filled added
-  stood-ready n e =
+  stood-ready n e paid′ size set-so =
       let h : filled f ≡ given n = rw e in
-      gives (record { n = n; front = known }) (sym (was-given p n h)) (record { placed = was-kept p n h; as-known = refl })
+      let says = sym (was-given p n h) in
+      let placed = was-kept p n h in
+      let more = put-counts back part (placed .part) day 0 says in
+      gives (record { n = n; start = tip .start; front = known }) says
+      (record { placed = placed; as-known = refl; as-start = refl; pays = set-so size (omega (arith, placed .part, more)) })
 
-  pub stood-refused : (k : ℕ) → f ≡ filled-is.Refused k → PutFront back room known o (Refused k) w
+  pub stood-refused : (k : ℕ) → f ≡ filled-is.Refused k → (paid′ : List ℕ) → PutFront back room tip known paid (put room day 0 (held back (tip .n) w)) (Refused k) w′ paid′
   unfolding filled added
-  stood-refused k e = let h : filled f ≡ refused k = rw e in refuses k (sym (was-refused p k h))
+  stood-refused k e paid′ = let h : filled f ≡ refused k = rw e in refuses k (sym (was-refused p k h))
 
 -- ---- unless it adjusts to the day of the newest
-module _ (mask : ℕ) (closed : List ℕ) (convention : Convention) (back : Bool) {room n : ℕ} {w : Work} (b : Begun closed room n w) (front : ℕ) (f : Front mask closed convention front (newest (held back n w))) (day last : ℕ) (at : length (w .days) ≡ 4096 → n < 4097 → last ≡ lastDay back n (w .days)) where
-  here : last ≡ newest (held back n w)
+module _ (mask : ℕ) (closed : List ℕ) (convention : Convention) (back : Bool) {room : ℕ} (tip : Tip) {w : Work} {paid : List ℕ} (l : Looped mask closed convention back room w paid tip) (day last : ℕ) (at : length (w .days) ≡ 4096 → tip .n < 4097 → last ≡ lastDay back (tip .n) (w .days)) where
+  b : Begun closed room (tip .n) w
+  b = l .ahead .begun
+
+  here : last ≡ newest (held back (tip .n) w)
   here = newest-read back last (b .part) at
 
-  module _ (kept : Dated) (known : closedOk closed ≡ true → Front mask closed convention front last → dated kept ≡ adjusted mask closed convention last) where
-    was : dated kept ≡ adjusted mask closed convention (newest (held back n w))
-    was = let k = known (b .calendar) (rw here f) in rw here at k
+  module _ (kept : Dated) (known : closedOk closed ≡ true → Front mask closed convention (tip .front) last → dated kept ≡ adjusted mask closed convention last) where
+    was : dated kept ≡ adjusted mask closed convention (newest (held back (tip .n) w))
+    was = let k = known (b .calendar) (rw here (l .ahead .front)) in rw here at k
 
-    pub new-stop : (m : ℕ) → kept ≡ dated-is.Refused m → Adding mask closed convention back room (putNew mask closed convention room day day 0 (held back n w)) (Refused m) w
+    pub new-stop : (m : ℕ) → kept ≡ dated-is.Refused m → Adding mask closed convention back room (putNew mask closed convention room day day 0 (held back (tip .n) w)) (Refused m) w paid
     unfolding putNew added
     new-stop m e = refuses m (then-refused _ m _ (refused-day kept m _ was e))
 
@@ -59,51 +68,62 @@ module _ (mask : ℕ) (closed : List ℕ) (convention : Convention) (back : Bool
       s : dated moved ≡ adjusted mask closed convention day
       s = found (b .calendar)
 
-      pub new-closed : (m : ℕ) → moved ≡ dated-is.Refused m → Adding mask closed convention back room (putNew mask closed convention room day day 0 (held back n w)) (Refused m) w
+      pub new-closed : (m : ℕ) → moved ≡ dated-is.Refused m → Adding mask closed convention back room (putNew mask closed convention room day day 0 (held back (tip .n) w)) (Refused m) w paid
       unfolding putNew added
       new-closed m e = refuses m (then-given _ (a .day) _ _ (given-day kept a _ was q) (then-refused _ m _ (refused-day moved m _ s e)))
 
       module _ (c : Date) (t : moved ≡ dated-is.Day c) where
-        pub new-same : a .day ≡ c .day → Adding mask closed convention back room (putNew mask closed convention room day day 0 (held back n w)) (Ready (record { n = n; front = a .day })) w
+        pub new-same : a .day ≡ c .day → Adding mask closed convention back room (putNew mask closed convention room day day 0 (held back (tip .n) w)) (Ready (record { n = tip .n; start = tip .start; front = a .day })) w paid
         unfolding putNew putUnless added
         new-same e =
-            gives (record { n = n; front = a .day })
+            gives (record { n = tip .n; start = tip .start; front = a .day })
             (then-given _ (a .day) _ _ (given-day kept a _ was q)
             (then-given _ (c .day) _ _ (given-day moved c _ s t) (rw (eq-eqb (a .day) (c .day) e) refl)))
-            (record { begun = b; front = record { known = λ h. given-day kept a _ was q } })
+            (record { ahead = record { begun = b; front = record { known = λ h. given-day kept a _ was q } }; pays = l .pays })
 
-        stepped : (a .day ≡ c .day → ⊥) → put room day 0 (held back n w) ≡ putNew mask closed convention room day day 0 (held back n w)
+        stepped : (a .day ≡ c .day → ⊥) → put room day 0 (held back (tip .n) w) ≡ putNew mask closed convention room day day 0 (held back (tip .n) w)
         unfolding putNew putUnless
         stepped e =
             then-given _ (a .day) _ _ (given-day kept a _ was q)
             (then-given _ (c .day) _ _ (given-day moved c _ s t) (rw (ne-eqb (a .day) (c .day) e) refl))
 
-        ahead-put : (r : Added) (w′ : Work) → PutFront back room (c .day) (put room day 0 (held back n w)) r w′ → Kept (Ahead mask closed convention back room w′) (added r)
-        unfolding added seen Kept
-        ahead-put (Ready tip) w′ v =
-            let k = v .keeps in
-            let u : given (held back (tip .n) w′) ≡ put room day 0 (held back n w) = v .says in
-            record {
-              begun = begun (b .calendar) (k .placed);
-              front = record { known = λ h. ap (adjusted mask closed convention) (put-is-newest room day 0 (held back n w) (held back (tip .n) w′) u) ∙ given-day moved c _ s t ∙ ap given (sym (k .as-known)) };
-            }
-        ahead-put (Refused m) w′ v = tt
+        -- what was put is the newest, and paid
+        module _ (m : Tip) (w′ : Work) (paid′ : List ℕ) (k : Stood back room tip (c .day) paid w′ paid′ m) (u : given (held back (m .n) w′) ≡ put room day 0 (held back (tip .n) w)) where
+          put-ahead : Ahead mask closed convention back room w′ m
+          put-ahead =
+              record {
+                begun = begun (b .calendar) (k .placed);
+                front = record { known = λ h. ap (adjusted mask closed convention) (put-is-newest room day 0 (held back (tip .n) w) (held back (m .n) w′) u) ∙ given-day moved c _ s t ∙ ap given (sym (k .as-known)) };
+              }
 
-        pub new-put : (r : Added) (w′ : Work) → (a .day ≡ c .day → ⊥) → (Part room n w → PutFront back room (c .day) (put room day 0 (held back n w)) r w′) → Adding mask closed convention back room (putNew mask closed convention room day day 0 (held back n w)) r w′
-        new-put r w′ e k = let v = k (b .part) in record { says = v .says ∙ stepped e; keeps = ahead-put r w′ v }
+          put-pays : Paid (adjusted mask closed convention) back (m .start) (m .n) (w′ .days) paid′
+          unfolding held
+          put-pays =
+              let more = put-counts back (b .part) (k .placed .part) day 0 u in
+              let few : tip .n < 4096 = omega (arith, k .placed .part, more) in
+              rw (k .as-start)
+              (paid-more (adjusted mask closed convention) back day (c .day) (b .part .work-size) few (l .pays) more (given-day moved c _ s t) (put-dates room day 0 (held back (tip .n) w) (held back (m .n) w′) u) (k .pays))
+
+        looped-put : (r : Added) (w′ : Work) (paid′ : List ℕ) → PutFront back room tip (c .day) paid (put room day 0 (held back (tip .n) w)) r w′ paid′ → Kept (Looped mask closed convention back room w′ paid′) (added r)
+        unfolding added seen Kept
+        looped-put (Ready m) w′ paid′ v = record { ahead = put-ahead m w′ paid′ (v .keeps) (v .says); pays = put-pays m w′ paid′ (v .keeps) (v .says) }
+        looped-put (Refused m) w′ paid′ v = tt
+
+        pub new-put : (r : Added) (w′ : Work) (paid′ : List ℕ) → (a .day ≡ c .day → ⊥) → (Part room (tip .n) w → length paid ≡ 4096 → PutFront back room tip (c .day) paid (put room day 0 (held back (tip .n) w)) r w′ paid′) → Adding mask closed convention back room (putNew mask closed convention room day day 0 (held back (tip .n) w)) r w′ paid′
+        new-put r w′ paid′ e k = let v = k (b .part) (l .pays .size) in record { says = v .says ∙ stepped e; keeps = looped-put r w′ paid′ v }
 
 -- ---- an anchor
 module _ (mask : ℕ) (closed : List ℕ) (convention : Convention) (back : Bool) (room anchor : ℕ) (tip : Tip) (w : Work) where
-  pub anchor-absent : Ahead mask closed convention back room w tip → anchor ≡ 0 → Adding mask closed convention back room (putAnchor mask closed convention room anchor (held back (tip .n) w)) (Ready tip) w
+  pub anchor-absent : (paid : List ℕ) → Looped mask closed convention back room w paid tip → anchor ≡ 0 → Adding mask closed convention back room (putAnchor mask closed convention room anchor (held back (tip .n) w)) (Ready tip) w paid
   unfolding putAnchor added
-  anchor-absent a e = gives tip (rw e refl) a
+  anchor-absent paid a e = gives tip (rw e refl) a
 
   there : (x : ℕ) → (x ≡ 0 → ⊥) → putNew mask closed convention room x x 0 (held back (tip .n) w) ≡ putAnchor mask closed convention room x (held back (tip .n) w)
   unfolding putAnchor
   there zero h = absurd (h refl)
   there (suc x) h = refl
 
-  pub anchor-there : (r : Added) (w′ : Work) → (anchor ≡ 0 → ⊥) → Adding mask closed convention back room (putNew mask closed convention room anchor anchor 0 (held back (tip .n) w)) r w′ → Adding mask closed convention back room (putAnchor mask closed convention room anchor (held back (tip .n) w)) r w′
-  anchor-there r w′ h v = gives-as (there anchor h) v
+  pub anchor-there : (r : Added) (w′ : Work) (paid′ : List ℕ) → (anchor ≡ 0 → ⊥) → Adding mask closed convention back room (putNew mask closed convention room anchor anchor 0 (held back (tip .n) w)) r w′ paid′ → Adding mask closed convention back room (putAnchor mask closed convention room anchor (held back (tip .n) w)) r w′ paid′
+  anchor-there r w′ paid′ h v = gives-as (there anchor h) v
 
 pub ruleset anchors = (anchor-absent, anchor-there, does, needs)

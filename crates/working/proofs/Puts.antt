@@ -102,6 +102,20 @@ paid-more A back {start} {n} {m} day b {days} {days′} {paid} {paid′} s few p
     })
 
 -- ---- the newest
+head-is : (l xs : List ℕ) (x : ℕ) → l ≡ x ∷ xs → l ≡ getD l 0 0 ∷ xs
+head-is l xs x e = rw e refl
+
+-- it stands before those that were put earlier
+pub newest-first : (back : Bool) (l : List ℕ) (n : ℕ) → length l ≡ 4096 → 0 < n → n ≤ 4096 → lastPut back n l ≡ lastDay back n l ∷ lastPut back (n - 1) l
+unfolding lastPut lastDay
+newest-first true l n s p h =
+    let f : suc (4096 - n) ≡ 4096 - (n - 1) = omega arith in
+    head-is (drop (4096 - n) l) (drop (4096 - (n - 1)) l) (getD l (4096 - n) 0) (drop-cons l (4096 - n) 0 (omega arith) ∙ rw f refl)
+newest-first false l n s p h =
+    let e : n ≡ suc (n - 1) = omega arith in
+    head-is (reverse (take n l)) (reverse (take (n - 1) l)) (getD l (n - 1) 0)
+    (ap (λ (k : ℕ). reverse (take k l)) e ∙ rw (take-suc l (n - 1) 0 (omega arith)) (reverse-append (take (n - 1) l) (getD l (n - 1) 0 ∷ [])))
+
 newest-back : (l : List ℕ) (n : ℕ) → length l ≡ 4096 → 0 < n → n ≤ 4096 → getD l (4095 - (n - 1)) 0 ≡ getD (drop (4096 - n) l) 0 0
 newest-back l n s p h =
     let e : 4095 - (n - 1) ≡ 4096 - n = omega arith in

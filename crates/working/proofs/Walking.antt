@@ -1,16 +1,21 @@
 -- The invariant of the loop over the candidates, and a law for each way through a turn of it.
 -- Assumes nothing.
 use mathlib.Core.Path.{_≡_, refl, sym, ap, _∙_, subst}
-use mathlib.Core.Bool.{Bool, true, false}
+use mathlib.Core.Bool.{Bool, true, false, false≢true, not, _&&_}
 use mathlib.Core.List.{List, _∷_}
 use Prim.Native.Nat.{ℕ, suc, _+_, _-_, _≤_, _<_}
 use native.Mathlib.Numerals.{add-one}
 use native.Mathlib.Omega.{arith}
 use lib.ListN.{length, set}
 use lib.Dec.{eqb}
+use borrow.Author.Tests.{eq-eqb}
 use Rattle.refusal.specs.Answer.{Answer, given, refused, then, BOOK}
 use Rattle.date.specs.Civil.{pickN}
-use Rattle.date.specs.Date.{SPAN-LAST}
+use Rattle.date.specs.declared.Date.{Date}
+use Rattle.date.specs.declared.Dated.{Dated}
+use Rattle.date.specs.declared.Dated.the-variants as dated-is
+use Rattle.date.specs.Date.{SPAN-LAST, dated}
+use Rattle.date.specs.Laws.Made.{given-day}
 use Rattle.calendar.specs.declared.Convention.{Convention}
 use Rattle.calendar.specs.Open.{closedOk}
 use Rattle.calendar.specs.Adjust.{adjusted}
@@ -30,9 +35,9 @@ use Rattle.working.specs.declared.Course.{Course}
 use Rattle.working.specs.declared.candidates.Known.{Known}
 use Rattle.working.specs.Part.{Work, Part, Begun, held, lastPut, lastDay, placeOf, filled, Filling, Fills, begun}
 use Rattle.working.specs.Paying.{Paid}
-use Rattle.working.specs.Turning.{Front, Knows, told, Learnt, Compared, turnOn, Looped, walked, Walking}
+use Rattle.working.specs.Turning.{Front, Knows, told, Learnt, Compared, Starts, Started, turnOn, Looped, walked, Walking}
 use Rattle.working.specs.Held.{newest-read, put-is-newest, put-dates, put-counts}
-use Rattle.working.proofs.Puts.{paid-none, paid-more}
+use Rattle.working.proofs.Puts.{paid-none, paid-more, newest-first}
 
 -- what is left to do from the k-th candidate on comes to the outcome o
 pub record Going (course : Course) (mask : ℕ) (closed : List ℕ) (convention : Convention) (room start : ℕ) (o : Answer Walk) (w : Work) (paid : List ℕ) (n k : ℕ) (known : Known) : Type 0 where
@@ -42,27 +47,45 @@ pub record Going (course : Course) (mask : ℕ) (closed : List ℕ) (convention 
   pub pays : Paid (adjusted mask closed convention) (course .back) start n (w .days) paid
   pub same : walk (turnOn course mask closed convention) room (suc SPAN-LAST - k) k (held (course .back) n w) ≡ o
 
-none-known : (mask : ℕ) (closed : List ℕ) (convention : Convention) (day : ℕ) → Knows mask closed convention (record { newest = day; front = 0; near = record { place = 0; from = 1; to = 0 } })
-none-known mask closed convention day =
-    record {
-      front = record { known = λ h. absurd (h refl) };
-      month = record { alike = λ a b l m h. let bad : ⊥ = omega arith in absurd bad };
-    }
+-- ---- what is known of the newest date before the first candidate
+module _ (mask : ℕ) (closed : List ℕ) (convention : Convention) (back : Bool) (n : ℕ) (days paid : List ℕ) (s : Starts back n days paid) where
+  pub first-unknown : Started mask closed convention back n days paid (record { n = n; start = n; front = 0 })
+  first-unknown =
+      record { front = record { known = λ h. absurd (h refl) }; pays = paid-none _ back n days paid (s .paid-size) }
 
-pub going-start : (course : Course) (mask : ℕ) (closed : List ℕ) (convention : Convention) (room n : ℕ) (w : Work) (paid : List ℕ) (day : ℕ) → (length (w .days) ≡ 4096 → n < 4097 → day ≡ lastDay (course .back) n (w .days)) → Begun closed room n w × (length paid ≡ 4096) → Going course mask closed convention room n (walk (turnOn course mask closed convention) room lastTry 1 (held (course .back) n w)) w paid n 1 (record { newest = day; front = 0; near = record { place = 0; from = 1; to = 0 } })
+  pub first-known : (day : ℕ) → (length days ≡ 4096 → n < 4097 → day ≡ lastDay back n days) → (found : Dated) → dated found ≡ adjusted mask closed convention day → (a : Date) → found ≡ dated-is.Day a → (start : ℕ) → start ≡ n - 1 → (paid′ : List ℕ) → (length paid ≡ 4096 → start < 4096 → paid′ ≡ set paid (placeOf back start) (a .day)) → Started mask closed convention back n days paid′ (record { n = n; start = start; front = a .day })
+  first-known day at found f a e start before paid′ set-so =
+      let most = s .most in
+      let some = s .some in
+      let is : day ≡ lastDay back n days = at (s .size) (omega arith) in
+      let known : adjusted mask closed convention (lastDay back n days) ≡ given (a .day) = rw is at (given-day found a _ f e) in
+      let put : lastPut back n days ≡ lastDay back n days ∷ lastPut back start days = rw before (newest-first back days n (s .size) some most) in
+      record {
+        front = record { known = λ h. known };
+        pays =
+            paid-more (adjusted mask closed convention) back (lastDay back n days) (a .day) (s .size) (omega arith) (paid-none _ back start days paid (s .paid-size)) (omega arith) known put (set-so (s .paid-size) (omega arith));
+      }
+
+pub starts : {closed : List ℕ} {room n : ℕ} {w : Work} {paid : List ℕ} (back : Bool) → Begun closed room n w × (length paid ≡ 4096) → Starts back n (w .days) paid
+starts back b = let t = b .0 .part in record { some = b .0 .some; most = omega (arith, t); size = t .work-size; paid-size = b .1 }
+
+pub going-start : (course : Course) (mask : ℕ) (closed : List ℕ) (convention : Convention) (room n : ℕ) (w : Work) (paid₀ paid : List ℕ) (tip : Tip) (day : ℕ) → (length (w .days) ≡ 4096 → n < 4097 → day ≡ lastDay (course .back) n (w .days)) → (closedOk closed ≡ true → Starts (course .back) n (w .days) paid₀ → Started mask closed convention (course .back) n (w .days) paid tip) → Begun closed room n w × (length paid₀ ≡ 4096) → Going course mask closed convention room (tip .start) (walk (turnOn course mask closed convention) room lastTry 1 (held (course .back) n w)) w paid n 1 (record { newest = day; front = tip .front; near = record { place = 0; from = 1; to = 0 } })
 unfolding lastTry
-going-start course mask closed convention room n w paid day at b =
+going-start course mask closed convention room n w paid₀ paid tip day at started b =
+    let s = started (b .0 .calendar) (starts (course .back) b) in
+    let t = b .0 .part in
+    let is : day ≡ lastDay (course .back) n (w .days) = at (t .work-size) (omega (arith, t)) in
     record {
       begun = b .0;
-      at = newest-read (course .back) day (b .0 .part) at;
-      knows = none-known mask closed convention day;
-      pays = paid-none _ (course .back) n (w .days) paid (b .1);
+      at = newest-read (course .back) day t at;
+      knows = record { front = rw is (s .front); month = record { alike = λ a b l m h. let bad : ⊥ = omega arith in absurd bad } };
+      pays = s .pays;
       same = refl;
     }
 
 module _ {course : Course} {mask : ℕ} {closed : List ℕ} {convention : Convention} {room start : ℕ} {o : Answer Walk} {w : Work} {paid : List ℕ} {n k : ℕ} {known : Known} (g : Going course mask closed convention room start o w paid n k known) where
   -- the candidates have been looked at
-  pub walk-out : SPAN-LAST < k → Walking mask closed convention (course .back) room start o (Refused 2) w paid
+  pub walk-out : SPAN-LAST < k → Walking mask closed convention (course .back) room o (Refused 2) w paid
   unfolding walk walked
   walk-out h =
       let a : suc SPAN-LAST - k ≡ 0 = omega arith in
@@ -80,14 +103,14 @@ module _ {course : Course} {mask : ℕ} {closed : List ℕ} {convention : Conven
         let s = rw (a, ← g .at) at (g .same) in
         rw (t .says) s
 
-    pub walk-stop : (m : ℕ) → r ≡ Stop m → Walking mask closed convention (course .back) room start o (Refused m) w paid
+    pub walk-stop : (m : ℕ) → r ≡ Stop m → Walking mask closed convention (course .back) room o (Refused m) w paid
     unfolding told then walked
     walk-stop m e = refuses m (rw e at opened)
 
-    pub walk-past : r ≡ Past → Walking mask closed convention (course .back) room start o (Ready (record { n = n; front = known .front }) k) w paid
+    pub walk-past : r ≡ Past → Walking mask closed convention (course .back) room o (Ready (record { n = n; start = start; front = known .front }) k) w paid
     unfolding told then walked onTurn
     walk-past e =
-        gives (record { n = n; front = known .front }, k) (rw e at opened)
+        gives (record { n = n; start = start; front = known .front }, k) (rw e at opened)
         (record { ahead = record { begun = g .begun; front = rw (g .at) at (g .knows .front) }; pays = g .pays })
 
     pub walk-skip : (next : Known) → r ≡ Skip next → Going course mask closed convention room start o w paid n (k + 1) next
@@ -105,7 +128,7 @@ module _ {course : Course} {mask : ℕ} {closed : List ℕ} {convention : Conven
       unfolding told then onTurn
       kept = rw (p .says) (rw e at opened)
 
-      pub walk-full : (m : ℕ) → f ≡ filled-is.Refused m → (paid′ : List ℕ) → Walking mask closed convention (course .back) room start o (Refused m) w′ paid′
+      pub walk-full : (m : ℕ) → f ≡ filled-is.Refused m → (paid′ : List ℕ) → Walking mask closed convention (course .back) room o (Refused m) w′ paid′
       unfolding filled seen then walked
       walk-full m q paid′ = refuses m (rw q at kept)
 
@@ -151,18 +174,24 @@ module _ (mask : ℕ) (closed : List ℕ) (a b : Convention) (e : adjusted mask 
   turn-alike course =
       λ i last k. then (candidate (course .back) (course .pace) (course .seed) k) (λ day. past-alike (isPast (course .back) (course .exit) day) last day i)
 
-  looped-alike : (back : Bool) (room n : ℕ) (w : Work) (paid : List ℕ) (tip : Tip) → Looped mask closed a back room n w paid tip → Looped mask closed b back room n w paid tip
-  looped-alike back room n w paid tip s =
+  looped-alike : (back : Bool) (room : ℕ) (w : Work) (paid : List ℕ) (tip : Tip) → Looped mask closed a back room w paid tip → Looped mask closed b back room w paid tip
+  looped-alike back room w paid tip s =
       record {
         ahead =
             record {
               begun = s .ahead .begun;
               front = record { known = λ h. ap (λ (g : ℕ → Answer ℕ). g (newest (held back (tip .n) w))) (sym e) ∙ s .ahead .front .known h };
             };
-        pays = subst (λ (g : ℕ → Answer ℕ). Paid g back n (tip .n) (w .days) paid) e (s .pays);
+        pays = subst (λ (g : ℕ → Answer ℕ). Paid g back (tip .start) (tip .n) (w .days) paid) e (s .pays);
       }
 
-  pub walk-alike : (course : Course) (room start fuel k : ℕ) (l : Lists) (r : Walked) (w : Work) (paid : List ℕ) → Walking mask closed a (course .back) room start (walk (turnOn course mask closed a) room fuel k l) r w paid → Walking mask closed b (course .back) room start (walk (turnOn course mask closed b) room fuel k l) r w paid
-  walk-alike course room start fuel k l r w paid g =
+  pub walk-alike : (course : Course) (room fuel k : ℕ) (l : Lists) (r : Walked) (w : Work) (paid : List ℕ) → Walking mask closed a (course .back) room (walk (turnOn course mask closed a) room fuel k l) r w paid → Walking mask closed b (course .back) room (walk (turnOn course mask closed b) room fuel k l) r w paid
+  walk-alike course room fuel k l r w paid g =
       gives-as (ap (λ (f : ℕ → ℕ → Answer steps.Turn). walk f room fuel k l) (turn-alike course))
-      (gives-less (λ t s. looped-alike (course .back) room start w paid (t .0) s) g)
+      (gives-less (λ t s. looped-alike (course .back) room w paid (t .0) s) g)
+
+-- ---- lists that do not have their places
+pub unlent : (dates paid marks : ℕ) (whole : Bool) → whole ≡ (eqb dates 4096 && (eqb paid 4096 && eqb marks 4096)) → not whole ≡ true → dates ≡ 4096 → paid ≡ 4096 → marks ≡ 4096 → ⊥
+unlent dates paid marks whole e f d p m =
+    let all : (eqb dates 4096 && (eqb paid 4096 && eqb marks 4096)) ≡ true = simp (eq-eqb dates 4096 d, eq-eqb paid 4096 p, eq-eqb marks 4096 m) in
+    false≢true (sym (ap not (e ∙ all)) ∙ f)

@@ -1,6 +1,6 @@
 -- What the functions of the loop over the candidates answer and keep.
 -- Assumes nothing.
-use Prim.Native.Nat.{ℕ}
+use Prim.Native.Nat.{ℕ, _≤_, _<_}
 use lib.ListN.{length}
 use mathlib.Core.Path.{_≡_}
 use mathlib.Core.Bool.{Bool}
@@ -19,7 +19,7 @@ use Rattle.working.specs.declared.Tip.{Tip}
 use Rattle.working.specs.Step.{Gives, Step, stops, goes-on}
 use Rattle.working.specs.declared.Course.{Course}
 use Rattle.working.specs.declared.candidates.Known.{Known}
-use Rattle.working.specs.Part.{Work, Begun, held}
+use Rattle.working.specs.Part.{Work, Begun, held, lastDay}
 use Rattle.working.specs.Paying.{Paid}
 
 -- what is known of a day's adjusted date: `front`, or nothing where that is 0
@@ -59,24 +59,35 @@ pub record Ahead (mask : ℕ) (closed : List ℕ) (convention : Convention) (bac
   pub begun : Begun closed room (tip .n) w
   pub front : Front mask closed convention (tip .front) (newest (held back (tip .n) w))
 
+-- ---- before the walk: n dates, and what is then known of the newest
+pub record Starts (back : Bool) (n : ℕ) (days paid : List ℕ) : Type 0 where
+  pub some : 0 < n
+  pub most : n ≤ 4096
+  pub size : length days ≡ 4096
+  pub paid-size : length paid ≡ 4096
+
+pub record Started (mask : ℕ) (closed : List ℕ) (convention : Convention) (back : Bool) (n : ℕ) (days paid : List ℕ) (tip : Tip) : Type 0 where
+  pub front : Front mask closed convention (tip .front) (lastDay back n days)
+  pub pays : Paid (adjusted mask closed convention) back (tip .start) n days paid
+
 -- ---- the walk
 unfoldable pub walked : Walked → Answer (Tip × ℕ)
 walked (Ready tip tries) = given (tip, tries)
 walked (Refused k) = refused k
 
--- what the loop leaves: the lists stand, the front is known, and the dates from the n-th on are paid
-pub record Looped (mask : ℕ) (closed : List ℕ) (convention : Convention) (back : Bool) (room n : ℕ) (w : Work) (paid : List ℕ) (tip : Tip) : Type 0 where
+-- the lists stand, the front is known, and the dates from the start on are paid
+pub record Looped (mask : ℕ) (closed : List ℕ) (convention : Convention) (back : Bool) (room : ℕ) (w : Work) (paid : List ℕ) (tip : Tip) : Type 0 where
   pub ahead : Ahead mask closed convention back room w tip
-  pub pays : Paid (adjusted mask closed convention) back n (tip .n) (w .days) paid
+  pub pays : Paid (adjusted mask closed convention) back (tip .start) (tip .n) (w .days) paid
 
-abbrev pub Walking : (mask : ℕ) (closed : List ℕ) (convention : Convention) (back : Bool) (room n : ℕ) (o : Answer Walk) (r : Walked) (w : Work) (paid : List ℕ) → Type 0
-Walking mask closed convention back room n o r w paid =
-    Gives (λ t. record { lists = held back (t .0 .n) w; tries = t .1 }) (λ t. Looped mask closed convention back room n w paid (t .0)) o (walked r)
+abbrev pub Walking : (mask : ℕ) (closed : List ℕ) (convention : Convention) (back : Bool) (room : ℕ) (o : Answer Walk) (r : Walked) (w : Work) (paid : List ℕ) → Type 0
+Walking mask closed convention back room o r w paid =
+    Gives (λ t. record { lists = held back (t .0 .n) w; tries = t .1 }) (λ t. Looped mask closed convention back room w paid (t .0)) o (walked r)
 
 -- the promise of the loop on lists of n dates
 abbrev pub Walks : (mask : ℕ) (closed : List ℕ) (convention : Convention) (back : Bool) (room : ℕ) (does : Lists → Answer Walk) (n : ℕ) (w : Work) (paid : List ℕ) (r : Walked) (w′ : Work) (paid′ : List ℕ) → Type 0
 Walks mask closed convention back room does n w paid r w′ paid′ =
-    Step (Begun closed room n w × (length paid ≡ 4096)) (λ t. record { lists = held back (t .0 .n) w′; tries = t .1 }) (λ t. Looped mask closed convention back room n w′ paid′ (t .0)) (does (held back n w)) (walked r)
+    Step (Begun closed room n w × (length paid ≡ 4096)) (λ t. record { lists = held back (t .0 .n) w′; tries = t .1 }) (λ t. Looped mask closed convention back room w′ paid′ (t .0)) (does (held back n w)) (walked r)
 
 -- ---- after the loop
 module _ {A D B P : Type 0} {view : Tip × ℕ → A} {Keeps : Tip × ℕ → Type 0} {view′ : D → B} {Keeps′ : D → Type 0} {o : Answer A} (f : A → Answer B) (r : Walked) {r′ : Answer D} (s : Step P view Keeps o (walked r)) where

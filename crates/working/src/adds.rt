@@ -1,12 +1,13 @@
 // Dates that are added unless they adjust to the same day as the newest one.
 ghost use mathlib.Core.Path.{_≡_};
 ghost use mathlib.Core.Bool.{true};
+ghost use lib.ListN.{length};
 ghost use Rattle.date.specs.Date.{dated};
 ghost use Rattle.calendar.specs.Open.{closedOk};
 ghost use Rattle.calendar.specs.Adjust.{adjusted};
 ghost use Rattle.steps.specs.Generate.{put, putNew, putAnchor};
 ghost use Rattle.working.specs.Part.{working, Part, held};
-ghost use Rattle.working.specs.Turning.{Front, Ahead};
+ghost use Rattle.working.specs.Turning.{Front, Looped};
 ghost use Rattle.working.specs.Adding.{Adds, PutFront};
 use crate::Adjusting;
 use crate::Filled;
@@ -22,21 +23,30 @@ pub enum Added {
     Refused(u8),
 }
 
-// A date put behind the n that are there, with mark 0.
+// A date put behind those that are there, with mark 0, and its adjusted date beside it.
 fn put_front(
     back: bool,
     room: usize,
-    n: usize,
+    tip: Tip,
     day: u32,
     front: u32,
     work: &mut [u32],
+    paid: &mut [u32],
     marks: &mut [u8],
 ) -> Added
-    ensures { λ r. ⌜ (Part room n (working (now (work .entry)) (now (marks .entry))) → PutFront back room front (put room day 0 (held back n (working (now (work .entry)) (now (marks .entry))))) r (working (now (work .exit)) (now (marks .exit)))) ⌝ }
+    ensures { λ r. ⌜ (Part room (tip .n) (working (now (work .entry)) (now (marks .entry))) → length (now (paid .entry)) ≡ 4096 → PutFront back room tip front (now (paid .entry)) (put room day 0 (held back (tip .n) (working (now (work .entry)) (now (marks .entry))))) r (working (now (work .exit)) (now (marks .exit))) (now (paid .exit))) ⌝ }
 {
+    let n = tip.n;
     let put = lists::put(back, n, room, day, 0, work, marks);
     match put {
-        Filled::Ready(m) => Added::Ready(Tip { n: m, front }),
+        Filled::Ready(m) => {
+            lists::pay(back, n, front, paid);
+            Added::Ready(Tip {
+                n: m,
+                start: tip.start,
+                front,
+            })
+        }
         Filled::Refused(k) => Added::Refused(k),
     }
 }
@@ -52,7 +62,8 @@ fn front_of(front: u32, newest: u32, adjusting: Adjusting, closed: &[u32]) -> Da
     Dated::Day(Date { day: front })
 }
 
-// The day is put with mark 0, unless it adjusts to the same day as the newest date.
+// The day is put with mark 0 and its adjusted date beside it, unless it adjusts to the same day as the newest date. It has nine
+// parameters, as `put_anchor`: no struct can hold a list that is lent.
 pub fn put_new(
     back: bool,
     room: usize,
@@ -61,9 +72,10 @@ pub fn put_new(
     adjusting: Adjusting,
     closed: &[u32],
     work: &mut [u32],
+    paid: &mut [u32],
     marks: &mut [u8],
 ) -> Added
-    ensures { λ r. ⌜ Adds (Ahead (adjusting .mask) (now (closed .entry)) (adjusting .convention) back room) back (putNew (adjusting .mask) (now (closed .entry)) (adjusting .convention) room day day 0) tip (working (now (work .entry)) (now (marks .entry))) r (working (now (work .exit)) (now (marks .exit))) ⌝ }
+    ensures { λ r. ⌜ Adds (Looped (adjusting .mask) (now (closed .entry)) (adjusting .convention) back room) back (putNew (adjusting .mask) (now (closed .entry)) (adjusting .convention) room day day 0) tip (working (now (work .entry)) (now (marks .entry))) (now (paid .entry)) r (working (now (work .exit)) (now (marks .exit))) (now (paid .exit)) ⌝ }
 {
     let newest = lists::newest(back, tip.n, work);
     let a = match front_of(tip.front, newest, adjusting, closed) {
@@ -78,10 +90,11 @@ pub fn put_new(
     if a.day == b.day {
         return Added::Ready(Tip {
             n: tip.n,
+            start: tip.start,
             front: a.day,
         });
     }
-    put_front(back, room, tip.n, day, b.day, work, marks)
+    put_front(back, room, tip, day, b.day, work, paid, marks)
 }
 
 // The anchor at which the loop ended, where there is one.
@@ -93,12 +106,23 @@ pub fn put_anchor(
     adjusting: Adjusting,
     closed: &[u32],
     work: &mut [u32],
+    paid: &mut [u32],
     marks: &mut [u8],
 ) -> Added
-    ensures { λ r. ⌜ Adds (Ahead (adjusting .mask) (now (closed .entry)) (adjusting .convention) back room) back (putAnchor (adjusting .mask) (now (closed .entry)) (adjusting .convention) room anchor) tip (working (now (work .entry)) (now (marks .entry))) r (working (now (work .exit)) (now (marks .exit))) ⌝ }
+    ensures { λ r. ⌜ Adds (Looped (adjusting .mask) (now (closed .entry)) (adjusting .convention) back room) back (putAnchor (adjusting .mask) (now (closed .entry)) (adjusting .convention) room anchor) tip (working (now (work .entry)) (now (marks .entry))) (now (paid .entry)) r (working (now (work .exit)) (now (marks .exit))) (now (paid .exit)) ⌝ }
 {
     if anchor == 0 {
         return Added::Ready(tip);
     }
-    put_new(back, room, tip, anchor, adjusting, closed, work, marks)
+    put_new(
+        back,
+        room,
+        tip,
+        anchor,
+        adjusting,
+        closed,
+        work,
+        paid,
+        marks,
+    )
 }

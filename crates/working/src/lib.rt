@@ -28,15 +28,16 @@ pub struct Course {
     pub exit: u32,
 }
 
-// How many dates there are, and the newest date's adjusted date where it is known, else 0.
+// How many dates there are, from which on each has its paid date beside it, and the newest date's adjusted date where it is known,
+// else 0.
 pub struct Tip {
     pub n: usize,
+    pub start: usize,
     pub front: u32,
 }
 
-// A loop that has ended: how many dates stood before it, the tries, and the seed that its candidates were counted from.
+// A loop that has ended: the tries, and the seed that its candidates were counted from.
 pub struct Round {
-    pub start: usize,
     pub tries: u32,
     pub seed: u32,
 }
@@ -48,7 +49,7 @@ pub enum Filled {
 }
 
 // A part of the working lists: n dates from a place on, and the flags between them from another place on; with the tries and the seed.
-// Those from the `known`-th up to the `beyond`-th, the dates of the loop, have their paid dates beside them.
+// Those from the `known`-th up to the `beyond`-th have their paid dates beside them.
 pub struct Piece {
     pub from: usize,
     pub marked: usize,

@@ -1,7 +1,10 @@
 // The loop over the candidates.
+ghost use mathlib.Core.Path.{_≡_};
+ghost use mathlib.Core.Bool.{true};
+ghost use Rattle.calendar.specs.Open.{closedOk};
 ghost use Rattle.steps.specs.Generate.{lastTry, walk};
 ghost use Rattle.working.specs.Part.{working};
-ghost use Rattle.working.specs.Turning.{turnOn, Walks};
+ghost use Rattle.working.specs.Turning.{Starts, Started, turnOn, Walks};
 use crate::Adjusting;
 use crate::Course;
 use crate::Filled;
@@ -10,8 +13,10 @@ use crate::candidates;
 use crate::candidates::Known;
 use crate::candidates::Turn;
 use crate::lists;
+use calendar::moves;
 use calendar::search;
 use calendar::search::Near;
+use date::Dated;
 use date::span;
 
 // What the loop leaves, and the tries.
@@ -20,9 +25,41 @@ pub enum Walked {
     Refused(u8),
 }
 
-// Candidates are put behind the `start` dates that are there, and their adjusted dates into `paid`, up to the first beyond the exit
-// date. No candidate beyond the number of the span's last day is a day of it, so 2 is what the loop would meet there.
-pub fn walk(
+// The newest of the n dates that are there, adjusted, and so put beside it. One that can't be adjusted is not known: it refuses only
+// where a candidate is compared with it.
+fn first_tip(
+    back: bool,
+    n: usize,
+    adjusting: Adjusting,
+    closed: &[u32],
+    work: &[u32],
+    paid: &mut [u32],
+) -> Tip
+    ensures { λ r. ⌜ (closedOk (now (closed .entry)) ≡ true → Starts back n (now (work .entry)) (now (paid .entry)) → Started (adjusting .mask) (now (closed .entry)) (adjusting .convention) back n (now (work .entry)) (now (paid .exit)) r) ⌝ }
+{
+    let newest = lists::newest(back, n, work);
+    let convention = adjusting.convention;
+    let found = moves::date_of(search::adjust(newest, convention, adjusting.mask, closed));
+    match found {
+        Dated::Refused(_) => Tip {
+            n,
+            start: n,
+            front: 0,
+        },
+        Dated::Day(a) => {
+            let start = lists::surplus(n, 1);
+            lists::pay(back, start, a.day, paid);
+            Tip {
+                n,
+                start,
+                front: a.day,
+            }
+        }
+    }
+}
+
+// The loop, on lists that have their places.
+fn turns(
     course: Course,
     room: usize,
     adjusting: Adjusting,
@@ -43,9 +80,10 @@ pub fn walk(
     };
     let mut n = start;
     let mut k: u32 = 1;
+    let first = first_tip(back, n, way, closed, work, paid);
     let mut known = Known {
         newest: lists::newest(back, n, work),
-        front: 0,
+        front: first.front,
         near: Near::NOTHING,
     };
     while k <= span::LAST {
@@ -58,6 +96,7 @@ pub fn walk(
                 return Walked::Ready {
                     tip: Tip {
                         n,
+                        start: first.start,
                         front: known.front,
                     },
                     tries: k,
@@ -84,4 +123,24 @@ pub fn walk(
         }
     }
     Walked::Refused(refusal::BOOK)
+}
+
+// Candidates are put behind the `start` dates that are there, and their adjusted dates into `paid`, up to the first beyond the exit
+// date. No candidate beyond the number of the span's last day is a day of it, so 2 is what the loop would meet there.
+pub fn walk(
+    course: Course,
+    room: usize,
+    adjusting: Adjusting,
+    closed: &[u32],
+    start: usize,
+    work: &mut [u32],
+    paid: &mut [u32],
+    marks: &mut [u8],
+) -> Walked
+    ensures { λ r. ⌜ Walks (adjusting .mask) (now (closed .entry)) (adjusting .convention) (course .back) room (walk (turnOn course (adjusting .mask) (now (closed .entry)) (adjusting .convention)) room lastTry 1) start (working (now (work .entry)) (now (marks .entry))) (now (paid .entry)) r (working (now (work .exit)) (now (marks .exit))) (now (paid .exit)) ⌝ }
+{
+    if !lists::are_whole(work.len(), paid.len(), marks.len()) {
+        return Walked::Refused(refusal::ROOM);
+    }
+    turns(course, room, adjusting, closed, start, work, paid, marks)
 }

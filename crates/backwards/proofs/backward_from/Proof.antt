@@ -3,7 +3,7 @@
 use Rattle.steps.specs.Generate.{backwardFrom}
 use Rattle.working.specs.Step.{step-as}
 use Rattle.working.specs.Turning.{walked-stops, walked-on}
-use Rattle.working.specs.Making.{generated-is-refused, back-laid}
+use Rattle.working.specs.Making.{generated-is-refused}
 use Rattle.working.specs.Loops.{loop-is}
 use Rattle.backwards.proofs.Backing.{back-end-seed}
 use borrow.Author.Needs.{needs}
@@ -76,7 +76,7 @@ returns-2 c =
     let seed : tie.After-seed-of = search in
     let day : tie.After-anchor-or = search in
     let start : tie.Start = search in
-    record { run = λ h. walked-on _ _ (step-as (loop-is (start .args .q) _ _ _ _ _ _ _ _ _ _ (h .0) (seed .seed-of .ensures) (day .anchor-or .ensures) (exit .anchor-or2 .ensures)) (loop .walk .ensures)) _ _ (ready .walked2 .given .1) (h .1) (λ a. back-end-seed _ _ _ _ _ _ _ (day .anchor-or .ensures) (back-laid _ _ _ _ _ _ _ _ (a .ahead .begun .part) (a .pays) (end .backward-end .ensures .run (a .ahead)))) }
+    record { run = λ h. walked-on _ _ (step-as (loop-is (start .args .q) _ _ _ _ _ _ _ _ _ _ (h .0) (seed .seed-of .ensures) (day .anchor-or .ensures) (exit .anchor-or2 .ensures)) (loop .walk .ensures)) _ _ (ready .walked2 .given .1) (h .1) (λ a. back-end-seed _ _ _ _ _ _ _ (day .anchor-or .ensures) (end .backward-end .ensures .run a)) }
 
 pub backward-from-spec : {M : Type 1} → statement M
 backward-from-spec =

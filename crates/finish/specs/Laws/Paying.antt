@@ -116,7 +116,7 @@ module _ (f : ℕ → Answer ℕ) where
         first (refused n) e = refl
 
     -- a part that is paid already
-    paid-stays : PaidAlready f b c ds ps → payBetween f b c ds ps ≡ given ps
+    pub paid-stays : PaidAlready f b c ds ps → payBetween f b c ds ps ≡ given ps
     unfolding payBetween then
     paid-stays p =
         let k : b + (c - b) ≡ c = omega arith in

@@ -5,7 +5,7 @@ use Rattle.steps.specs.Generate.{forwardFrom}
 use Rattle.working.specs.Step.{step-as}
 use Rattle.working.specs.Turning.{walked-stops, walked-on}
 use Rattle.working.specs.Paces.{pace-checked}
-use Rattle.working.specs.Making.{generated-is-refused, forth-laid}
+use Rattle.working.specs.Making.{generated-is-refused}
 use Rattle.working.specs.Loops.{loop-is}
 use borrow.Author.Needs.{needs}
 use Rattle.forwards.proofs.forward_from.Statement.{statement}
@@ -76,7 +76,7 @@ returns-2 c =
     let exit : tie.After-anchor-or = search in
     let seed : tie.After-seed-of = search in
     let pace : tie.After-pace-of = search in
-    record { run = λ h. walked-on _ _ (step-as (loop-is _ _ _ _ _ _ _ _ _ _ _ (pace .pace-of .ensures ∙ pace-checked _ (h .0 .tenor)) (seed .seed-of .ensures) refl (exit .anchor-or .ensures)) (loop .walk .ensures)) _ _ (ready .walked2 .given .1) (h .1) (λ a. forth-laid _ _ _ _ _ _ _ _ (a .ahead .begun .part) (a .pays) (end .forward-end .ensures .run (a .ahead))) }
+    record { run = λ h. walked-on _ _ (step-as (loop-is _ _ _ _ _ _ _ _ _ _ _ (pace .pace-of .ensures ∙ pace-checked _ (h .0 .tenor)) (seed .seed-of .ensures) refl (exit .anchor-or .ensures)) (loop .walk .ensures)) _ _ (ready .walked2 .given .1) (h .1) (λ a. end .forward-end .ensures .run a) }
 
 pub forward-from-spec : {M : Type 1} → statement M
 forward-from-spec =

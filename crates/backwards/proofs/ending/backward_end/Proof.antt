@@ -2,7 +2,7 @@
 -- Assumes nothing.
 use Rattle.steps.specs.Generate.{backwardEnd}
 use Rattle.working.specs.Adding.{adds, added-on}
-use Rattle.working.specs.Making.{generated-is-refused, back-made}
+use Rattle.working.specs.Making.{generated-is-refused, back-laid}
 use Rattle.working.specs.Part.{begun-placed}
 use borrow.Author.Needs.{needs}
 use Rattle.backwards.proofs.ending.backward_end.Statement.{statement}
@@ -24,6 +24,9 @@ same-length c = search needs
 same-length-2 : tie.Need-same-length-2
 same-length-2 c = search needs
 
+same-length-3 : tie.Need-same-length-3
+same-length-3 c = search needs
+
 returns : tie.Need-returns
 unfolding backwardEnd
 returns c =
@@ -40,24 +43,23 @@ surplus-requires c κs = search needs
 surplus-requires-2 : tie.Need-surplus-requires-2
 surplus-requires-2 c κs = search needs
 
-surplus-requires-3 : tie.Need-surplus-requires-3
-surplus-requires-3 c κs = search needs
-
-same-length-3 : tie.Need-same-length-3
-same-length-3 c = search needs
-
 same-length-4 : tie.Need-same-length-4
 same-length-4 c = search needs
+
+same-length-5 : tie.Need-same-length-5
+same-length-5 c = search needs
+
+same-length-6 : tie.Need-same-length-6
+same-length-6 c = search needs
 
 returns-2 : tie.Need-returns-2
 unfolding backwardEnd
 returns-2 c =
-    let beyond : tie.After-surplus3 = search in
-    let known : tie.After-surplus2 = search in
+    let beyond : tie.After-surplus2 = search in
     let from : tie.After-surplus = search in
     let tip : tie.After-t = search in
     let end : tie.After-end = search in
-    record { run = λ a. added-on _ _ (end .end .ensures) _ (tip .t .given .1) a (λ s. back-made _ _ _ _ _ _ _ (begun-placed (s .begun)) (from .surplus .ensures) (known .surplus2 .ensures) (beyond .surplus3 .ensures)) }
+    record { run = λ a. added-on _ _ (end .end .ensures) _ (tip .t .given .1) a (λ s. back-laid _ _ _ _ _ (begun-placed (s .ahead .begun)) (s .pays) (from .surplus .ensures) (beyond .surplus2 .ensures)) }
 
 pub backward-end-spec : {M : Type 1} → statement M
 backward-end-spec =
@@ -67,11 +69,12 @@ backward-end-spec =
     enum-known-k
     same-length
     same-length-2
+    same-length-3
     returns
     enum-known-t
     surplus-requires
     surplus-requires-2
-    surplus-requires-3
-    same-length-3
     same-length-4
+    same-length-5
+    same-length-6
     returns-2)

@@ -1,7 +1,7 @@
 -- `finish::adjusting::pay_dates` meets its contract.
 -- Assumes nothing.
 use mathlib.Core.Path.{refl}
-use Rattle.finish.proofs.Pays.{dates-refused, dates-last-refused, dates-on, among-paid}
+use Rattle.finish.proofs.Pays.{dates-refused, dates-kept, dates-last-refused, dates-on, among-paid}
 use borrow.Author.Needs.{needs}
 use Rattle.finish.proofs.adjusting.pay_dates.Statement.{statement}
 use Rattle.finish.proofs.adjusting.pay_dates.Tie as tie
@@ -10,17 +10,13 @@ use Rattle.finish.proofs.adjusting.pay_dates.Lts as lts
 use Rattle.finish.proofs.adjusting.narrow.Reads as narrow-reads
 use Rattle.finish.proofs.adjusting.pay_last.Reads as pay-last-reads
 use Rattle.finish.proofs.adjusting.pay_middle.Reads as pay-middle-reads
-use Rattle.finish.proofs.moving.pay_between.Reads as pay-between-reads
-use Rattle.steps.proofs.moves.first_move.Reads as first-move-reads
+use Rattle.finish.proofs.adjusting.pay_first.Reads as pay-first-reads
 
 narrow-requires : tie.Need-narrow-requires
 narrow-requires c κs = search needs
 
-first-move-requires : tie.Need-first-move-requires
-first-move-requires c κs = search needs
-
-pay-between-requires : tie.Need-pay-between-requires
-pay-between-requires c κs = search needs
+pay-first-requires : tie.Need-pay-first-requires
+pay-first-requires c κs = search needs
 
 enum-known-first : tie.Need-enum-known-first
 enum-known-first c = search needs
@@ -31,10 +27,9 @@ same-length c = search needs
 returns : tie.Need-returns
 returns c =
     let known : tie.After-first = search in
-    let paid : tie.After-pay-between = search in
-    let what : tie.After-first-move = search in
+    let paid : tie.After-pay-first = search in
     let start : tie.Start = search in
-    λ ok k. dates-refused _ _ _ _ _ (start .pre .0) (start .pre .1) _ (what .first-move .ensures) _ _ (paid .pay-between .ensures ok) _ _ (known .first .given .1)
+    λ ok k. dates-refused _ _ _ _ _ (start .pre .0) (start .pre .1) _ _ (paid .pay-first .ensures ok k) _ _ (known .first .given .1)
 
 enum-told : tie.Need-enum-told
 enum-told c = search needs
@@ -60,11 +55,11 @@ returns-2 c =
     let on : tie.After-enum-told2 = search in
     let ended : tie.After-pay-last = search in
     let told : tie.After-enum-told = search in
-    let paid : tie.After-pay-between = search in
-    let what : tie.After-first-move = search in
+    let long : tie.After-paid = search in
+    let paid : tie.After-pay-first = search in
     let narrow : tie.After-narrow = search in
     let start : tie.Start = search in
-    λ ok k. dates-on _ _ _ _ _ (start .pre .0) (start .pre .1) _ (what .first-move .ensures) _ _ (paid .pay-between .ensures ok) (told .enum-told .given .1) _ _ (ended .pay-last .ensures ok) _ _ (on .enum-told2 .given .1) (middle .pay-middle .ensures ok (among-paid (start .args .q) _ (start .args .seed) _ _ (start .pre .0) (start .pre .1) _ (what .first-move .ensures) _ _ (paid .pay-between .ensures ok) (told .enum-told .given .1) _ _ (ended .pay-last .ensures ok) _ _ _ (on .enum-told2 .given .1) refl (narrow .narrow .ensures) (search needs) _ k))
+    λ ok k. dates-on _ _ _ _ _ (start .pre .0) (start .pre .1) _ _ (paid .pay-first .ensures ok k) (told .enum-told .given .1) _ _ (ended .pay-last .ensures ok (dates-kept (start .args .q) _ (start .args .seed) _ _ (start .pre .0) (start .pre .1) _ _ (paid .pay-first .ensures ok k) _ _ (told .enum-told .given .1) k)) _ _ (on .enum-told2 .given .1) (middle .pay-middle .ensures ok (among-paid (start .args .q) _ (start .args .seed) _ _ (start .pre .0) (start .pre .1) _ _ (paid .pay-first .ensures ok k) (told .enum-told .given .1) _ _ (ended .pay-last .ensures ok (dates-kept (start .args .q) _ (start .args .seed) _ _ (start .pre .0) (start .pre .1) _ _ (paid .pay-first .ensures ok k) _ _ (told .enum-told .given .1) k)) _ _ _ (on .enum-told2 .given .1) refl (narrow .narrow .ensures) (long .paid .given) _ k))
 
 same-length-3 : tie.Need-same-length-3
 same-length-3 c = search needs
@@ -74,18 +69,16 @@ returns-3 c =
     let known : tie.After-last = search in
     let ended : tie.After-pay-last = search in
     let told : tie.After-enum-told = search in
-    let paid : tie.After-pay-between = search in
-    let what : tie.After-first-move = search in
+    let paid : tie.After-pay-first = search in
     let start : tie.Start = search in
-    λ ok k. dates-last-refused _ _ _ _ _ (start .pre .0) (start .pre .1) _ (what .first-move .ensures) _ _ (paid .pay-between .ensures ok) (told .enum-told .given .1) _ _ (ended .pay-last .ensures ok) _ _ (known .last .given .1)
+    λ ok k. dates-last-refused _ _ _ _ _ (start .pre .0) (start .pre .1) _ _ (paid .pay-first .ensures ok k) (told .enum-told .given .1) _ _ (ended .pay-last .ensures ok (dates-kept (start .args .q) _ (start .args .seed) _ _ (start .pre .0) (start .pre .1) _ _ (paid .pay-first .ensures ok k) _ _ (told .enum-told .given .1) k)) _ _ (known .last .given .1)
 
 pub pay-dates-spec : {M : Type 1} → statement M
 pay-dates-spec =
     tie.close
     (tie.spec
     narrow-requires
-    first-move-requires
-    pay-between-requires
+    pay-first-requires
     enum-known-first
     same-length
     returns

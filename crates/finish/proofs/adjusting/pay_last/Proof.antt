@@ -1,11 +1,12 @@
 -- `finish::adjusting::pay_last` meets its contract.
 -- Assumes nothing.
-use Rattle.finish.proofs.Pays.{last-alone, last-of-many}
+use Rattle.finish.proofs.Pays.{last-alone, last-stays, last-of-many}
 use borrow.Author.Needs.{needs}
 use Rattle.finish.proofs.adjusting.pay_last.Statement.{statement}
 use Rattle.finish.proofs.adjusting.pay_last.Tie as tie
 use Rattle.finish.proofs.adjusting.pay_last.Reads as reads
 use Rattle.finish.proofs.adjusting.pay_last.Lts as lts
+use Rattle.finish.proofs.adjusting.is_last_paid.Reads as is-last-paid-reads
 use Rattle.finish.proofs.adjusting.move_last.Reads as move-last-reads
 use Rattle.finish.proofs.moving.pay_between.Reads as pay-between-reads
 use Rattle.steps.proofs.moves.last_move.Reads as last-move-reads
@@ -24,7 +25,19 @@ returns c =
     let paid : tie.After-move-last = search in
     let test : tie.Then1 = search in
     let what : tie.After-last-move = search in
-    λ ok. last-alone _ _ _ _ _ (what .last-move .ensures) _ _ (test .if1 .taken) (paid .move-last .ensures ok)
+    λ ok k. last-alone _ _ _ _ _ (what .last-move .ensures) _ _ (test .if1 .taken) (paid .move-last .ensures ok)
+
+is-last-paid-requires : tie.Need-is-last-paid-requires
+is-last-paid-requires c κs = search needs
+
+returns-2 : tie.Need-returns-2
+returns-2 c =
+    let test : tie.Then2 = search in
+    let last : tie.After-is-last-paid = search in
+    let many : tie.Else1 = search in
+    let what : tie.After-last-move = search in
+    let start : tie.Start = search in
+    λ ok k. last-stays (start .args .q) _ _ _ _ (what .last-move .ensures) _ (many .if1 .left) (start .pre .0) (start .pre .1) (last .is-last-paid .ensures (test .if2 .taken)) k
 
 sub-pay-between : tie.Need-sub-pay-between
 sub-pay-between c = search needs
@@ -35,12 +48,12 @@ pay-between-requires c κs = search needs
 same-length-2 : tie.Need-same-length-2
 same-length-2 c = search needs
 
-returns-2 : tie.Need-returns-2
-returns-2 c =
+returns-3 : tie.Need-returns-3
+returns-3 c =
     let paid : tie.After-pay-between = search in
     let test : tie.Else1 = search in
     let what : tie.After-last-move = search in
-    λ ok. last-of-many _ _ _ _ _ (what .last-move .ensures) _ _ (test .if1 .left) (paid .pay-between .ensures ok)
+    λ ok k. last-of-many _ _ _ _ _ (what .last-move .ensures) _ _ (test .if1 .left) (paid .pay-between .ensures ok)
 
 pub pay-last-spec : {M : Type 1} → statement M
 pay-last-spec =
@@ -50,7 +63,9 @@ pay-last-spec =
     move-last-requires
     same-length
     returns
+    is-last-paid-requires
+    returns-2
     sub-pay-between
     pay-between-requires
     same-length-2
-    returns-2)
+    returns-3)

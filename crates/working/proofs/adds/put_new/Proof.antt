@@ -31,7 +31,7 @@ returns c = record {
       let stop : tie.After-k = search in
       let front : tie.After-front-of = search in
       let last : tie.After-newest = search in
-      new-stop _ _ _ _ (a .begun) _ (a .front) _ _ (last .newest .ensures) (front .front-of .result) (front .front-of .ensures) _ (stop .k .given .1);
+      new-stop _ _ _ _ _ a _ _ (last .newest .ensures) (front .front-of .result) (front .front-of .ensures) _ (stop .k .given .1);
 }
 
 enum-known-a : tie.Need-enum-known-a
@@ -58,7 +58,7 @@ returns-2 c = record {
       let known : tie.After-a = search in
       let front : tie.After-front-of = search in
       let last : tie.After-newest = search in
-      new-closed _ _ _ _ (a .begun) _ (a .front) _ _ (last .newest .ensures) (front .front-of .result) (front .front-of .ensures) _ (known .a .given .1) (taken .date-of .result) (λ ok. took _ _ _ _ (taken .date-of .ensures) (moved .adjust .ensures ok)) _ (stop .k2 .given .1);
+      new-closed _ _ _ _ _ a _ _ (last .newest .ensures) (front .front-of .result) (front .front-of .ensures) _ (known .a .given .1) (taken .date-of .result) (λ ok. took _ _ _ _ (taken .date-of .ensures) (moved .adjust .ensures ok)) _ (stop .k2 .given .1);
 }
 
 enum-known-b : tie.Need-enum-known-b
@@ -76,7 +76,7 @@ returns-3 c = record {
       let known : tie.After-a = search in
       let front : tie.After-front-of = search in
       let last : tie.After-newest = search in
-      new-same _ _ _ _ (a .begun) _ (a .front) _ _ (last .newest .ensures) (front .front-of .result) (front .front-of .ensures) _ (known .a .given .1) (taken .date-of .result) (λ ok. took _ _ _ _ (taken .date-of .ensures) (moved .adjust .ensures ok)) _ (new .b .given .1) (c .if1 .taken);
+      new-same _ _ _ _ _ a _ _ (last .newest .ensures) (front .front-of .result) (front .front-of .ensures) _ (known .a .given .1) (taken .date-of .result) (λ ok. took _ _ _ _ (taken .date-of .ensures) (moved .adjust .ensures ok)) _ (new .b .given .1) (c .if1 .taken);
 }
 
 put-front-requires : tie.Need-put-front-requires
@@ -87,6 +87,9 @@ same-length-4 c = search needs
 
 same-length-5 : tie.Need-same-length-5
 same-length-5 c = search needs
+
+same-length-6 : tie.Need-same-length-6
+same-length-6 c = search needs
 
 returns-4 : tie.Need-returns-4
 returns-4 c = record {
@@ -99,7 +102,7 @@ returns-4 c = record {
       let known : tie.After-a = search in
       let front : tie.After-front-of = search in
       let last : tie.After-newest = search in
-      new-put _ _ _ _ (a .begun) _ (a .front) _ _ (last .newest .ensures) (front .front-of .result) (front .front-of .ensures) _ (known .a .given .1) (taken .date-of .result) (λ ok. took _ _ _ _ (taken .date-of .ensures) (moved .adjust .ensures ok)) _ (new .b .given .1) _ _ (other .if1 .left) (put .put-front .ensures);
+      new-put _ _ _ _ _ a _ _ (last .newest .ensures) (front .front-of .result) (front .front-of .ensures) _ (known .a .given .1) (taken .date-of .result) (λ ok. took _ _ _ _ (taken .date-of .ensures) (moved .adjust .ensures ok)) _ (new .b .given .1) _ _ _ (other .if1 .left) (put .put-front .ensures);
 }
 
 pub put-new-spec : {M : Type 1} → statement M
@@ -123,4 +126,5 @@ put-new-spec =
     put-front-requires
     same-length-4
     same-length-5
+    same-length-6
     returns-4)
