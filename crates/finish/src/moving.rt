@@ -3,6 +3,7 @@ ghost use mathlib.Core.Path.{_≡_};
 ghost use mathlib.Core.Bool.{true};
 ghost use Prim.Native.Nat.{_≤_};
 ghost use lib.ListN.{length};
+ghost use Rattle.date.specs.Date.{dated};
 ghost use Rattle.calendar.specs.Open.{closedOk};
 ghost use Rattle.steps.specs.declared.Move.the-variants.{Adjust};
 ghost use Rattle.steps.specs.Finish.{moved, each, between};
@@ -20,12 +21,22 @@ pub(crate) enum Done {
     Refused(u8),
 }
 
+// A third Wednesday is asked for by itself, so that the compiler expands it in the loop, as it does not expand all that a date may become.
+fn moved(day: u32, what: Move, mask: u8, closed: &[u32]) -> Dated
+    ensures { λ r. ⌜ (closedOk (now (closed .entry)) ≡ true → dated r ≡ moved mask (now (closed .entry)) what day) ⌝ }
+{
+    match what {
+        Move::ThirdWednesdays => moves::third_wednesday(day),
+        _ => moves::moved(day, what, mask, closed),
+    }
+}
+
 pub(crate) fn move_all(s: &mut [u32], what: Move, mask: u8, closed: &[u32]) -> Done
     ensures { λ r. ⌜ (closedOk (now (closed .entry)) ≡ true → done r (now (s .exit)) ≡ each (moved mask (now (closed .entry)) what) (now (s .entry))) ⌝ }
 {
     let mut i = 0;
     while i < s.len() {
-        let next = moves::moved(s[i], what, mask, closed);
+        let next = moved(s[i], what, mask, closed);
         match next {
             Dated::Refused(n) => {
                 return Done::Refused(n);

@@ -69,25 +69,17 @@ fn of_dates(words: &[u32], at: u32) -> i64 {
     }
 }
 
-// The adjusted date, or 0 where the days that it moved are not those from the day given.
-fn adjusted(day: u32, convention: u8, mask: u8, closed: &[u32]) -> i64 {
-    let mut moved = [0i32; 1];
-    let number = heronspan_adjust(day, convention, mask, closed, &mut moved);
-    if number < 0 {
-        return number;
-    }
-    if number - day as i64 == moved[0] as i64 {
-        number
-    } else {
-        0
-    }
-}
-
 fn of_calendars(words: &[u32], at: u32, closed: &[u32]) -> i64 {
     let day = field(words, at, 2);
     let mut moved = [0i32; 1];
     match field(words, at, 1) {
-        11 => adjusted(day, small(words, at, 3), small(words, at, 4), closed),
+        11 => heronspan_adjust(
+            day,
+            small(words, at, 3),
+            small(words, at, 4),
+            closed,
+            &mut moved,
+        ),
         12 => heronspan_calendar_month_end(day, small(words, at, 3), closed, &mut moved),
         13 => heronspan_is_month_end(day, small(words, at, 3), closed),
         _ => heronspan_calendar_advance(

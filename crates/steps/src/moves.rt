@@ -16,7 +16,7 @@ use date::Dated;
 use date::civil;
 use date::span;
 
-fn third_wednesday(day: u32) -> Dated
+pub fn third_wednesday(day: u32) -> Dated
     ensures { λ r. ⌜ dated r ≡ thirdWednesday day ⌝ }
 {
     let f = civil::fields_of(day);
