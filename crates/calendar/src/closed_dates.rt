@@ -99,7 +99,7 @@ fn is_behind(closed: &[u32], x: u32, place: usize) -> bool
     closed[place - 1] < x
 }
 
-// Whether a guess is the place. The compiler expands this in a loop over days, where the place is mostly the one before.
+// Whether a guess is the place, as that of a day near by mostly is.
 fn is_place(closed: &[u32], x: u32, guess: usize) -> bool
     ensures { λ r. ⌜ (r ≡ true → LowerBound (now (closed .entry)) x guess) ⌝ }
 {
@@ -132,6 +132,9 @@ fn look_near(closed: &[u32], x: u32, guess: usize) -> usize
 pub fn place_near(closed: &[u32], x: u32, guess: usize) -> usize
     ensures { λ r. ⌜ LowerBound (now (closed .entry)) x r ⌝ }
 {
+    if closed.len() == 0 {
+        return 0;
+    }
     if is_place(closed, x, guess) {
         return guess;
     }
