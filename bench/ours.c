@@ -2,7 +2,7 @@
 #include "../include/heronspan.h"
 #include "timing.h"
 
-enum { PLACES = 4096, RECORD = 6 };
+enum { PLACES = 4096, RECORD = 7 };
 
 struct asked {
     struct build build;
@@ -18,6 +18,7 @@ struct asked {
 
 static uint32_t dates[PLACES], unadjusted[PLACES], record[RECORD];
 static uint8_t flags[PLACES];
+static int32_t moved[1];
 
 static void build(void *with)
 {
@@ -40,14 +41,14 @@ static void coming(void *with)
 static void adjust(void *with)
 {
     struct asked *a = (struct asked *)with;
-    a->answer = heronspan_adjust(a->day, a->convention, a->calendar.mask, a->calendar.closed, a->calendar.count);
+    a->answer = heronspan_adjust(a->day, a->convention, a->calendar.mask, a->calendar.closed, a->calendar.count, moved, 1);
 }
 
 static void advance(void *with)
 {
     struct asked *a = (struct asked *)with;
     a->answer = heronspan_calendar_advance(a->day, a->length, a->unit, a->convention, a->monthend, a->calendar.mask,
-                                           a->calendar.closed, a->calendar.count);
+                                           a->calendar.closed, a->calendar.count, moved, 1);
 }
 
 static void is_imm(void *with)
@@ -168,7 +169,8 @@ static void desk_run(void *with)
 static void desk_adjust(void *with)
 {
     struct asked *a = (struct asked *)with;
-    a->answer = heronspan_desk_adjust(a->day, a->convention, a->calendar.mask, a->desk.at, a->desk.count, a->house.at, a->house.count);
+    a->answer = heronspan_desk_adjust(a->day, a->convention, a->calendar.mask, a->desk.at, a->desk.count, a->house.at, a->house.count,
+                                      moved, 1);
 }
 
 static void desk_combine(void *with)

@@ -150,18 +150,22 @@ int64_t heronspan_calendar_check(uint8_t mask, const uint32_t *closed, size_t cl
 /* 1 where the day is open, 0 where it is closed. */
 int64_t heronspan_is_open(uint32_t day, uint8_t mask, const uint32_t *closed, size_t closed_len);
 
-/* The day adjusted by a convention. */
-int64_t heronspan_adjust(uint32_t day, uint8_t convention, uint8_t mask, const uint32_t *closed, size_t closed_len);
+/* The day adjusted by a convention. How many days it moved, later being positive, is written to the first place of `moved`, here and in the
+ * other functions with such a list. A list with no place is HERONSPAN_ROOM, before all else, and a refusal leaves it as it was. */
+int64_t heronspan_adjust(uint32_t day, uint8_t convention, uint8_t mask, const uint32_t *closed, size_t closed_len, int32_t *moved,
+                         size_t moved_len);
 
-/* The last open day of the day's month. */
-int64_t heronspan_calendar_month_end(uint32_t day, uint8_t mask, const uint32_t *closed, size_t closed_len);
+/* The last open day of the day's month, moved from the month's last day. */
+int64_t heronspan_calendar_month_end(uint32_t day, uint8_t mask, const uint32_t *closed, size_t closed_len, int32_t *moved,
+                                     size_t moved_len);
 
 /* 1 where the day is the last open day of its month, or after it; else 0, as for day 0. */
 int64_t heronspan_is_month_end(uint32_t day, uint8_t mask, const uint32_t *closed, size_t closed_len);
 
-/* The day moved by the tenor: days are open days, the other units are added and adjusted. `monthend` is 0 or 1. */
+/* The day moved by the tenor: days are open days, the other units are added and adjusted. `monthend` is 0 or 1. `moved` has the days from the
+ * sum, of natural days for open ones, or from its month's last day where the month end is given. */
 int64_t heronspan_calendar_advance(uint32_t day, int32_t tenor, uint8_t unit, uint8_t convention, uint8_t monthend,
-                                   uint8_t mask, const uint32_t *closed, size_t closed_len);
+                                   uint8_t mask, const uint32_t *closed, size_t closed_len, int32_t *moved, size_t moved_len);
 
 /* ---- open days by an index: HERONSPAN_PLACES running counts beside a calendar, at place i the open days from 1800-01-01 up to, and
  * without, 1 January of 1800 + i. Every other size is HERONSPAN_INDEX, after HERONSPAN_CALENDAR and before all else. The questions'
@@ -202,7 +206,7 @@ int64_t heronspan_desk_run(const uint32_t *desk, size_t desk_len, const uint32_t
 
 /* The day adjusted by a convention, each day that is tried open or closed by the run of its own year. */
 int64_t heronspan_desk_adjust(uint32_t day, uint8_t convention, uint8_t mask, const uint32_t *desk, size_t desk_len, const uint32_t *house,
-                              size_t house_len);
+                              size_t house_len, int32_t *moved, size_t moved_len);
 
 /* The two lists as one: the desk's entries, and the house's whose year has none of the desk's, ascending. It is written over the start of
    `closed`, and how many entries it has is answered; over these every function that takes closed dates answers for desk and house. 3 for
@@ -255,7 +259,8 @@ enum {
     HERONSPAN_RULE = 3,   /* the rule in force */
     HERONSPAN_SIZE = 4,   /* the length of the tenor in force */
     HERONSPAN_UNIT = 5,   /* and its unit */
-    HERONSPAN_RECORD = 6  /* how many places there are */
+    HERONSPAN_MOVED = 6,  /* the greatest number of days between a paid date and its unadjusted one */
+    HERONSPAN_RECORD = 7  /* how many places there are */
 };
 
 /* Builds a schedule and answers how many dates it has. They are written to the start of `dates`, as paid; one fewer flags, each 1

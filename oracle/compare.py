@@ -20,6 +20,9 @@ conventions and end of month an accepted build's unadjusted dates are its dates;
 request so asked (`unmoved`), where no candidate was skipped or changed, nothing merged in either, and both have as many dates.
 Outcomes say which builds were held to that, "third list too".
 
+Nor has it moves. Ours and the law must agree on the days that a date moved, and where the Rust answers the same date, they are that date less
+the day that it moved from (`base`).
+
 Demand 2's exception is a test of a question: it asks for the previous twentieth, or a build with CDS or CDS2015 in force, and
 the Rust's previous twentieth of the day is another than the law's. Its outcomes begin "left out"; ours is held to the law there
 as everywhere, and the Rust to the law with the Rust's step back.
@@ -37,6 +40,8 @@ import asking
 from reference import Refused
 
 BUILT = os.path.join(os.path.dirname(os.path.abspath(__file__)), "..", "target", "oracle")
+# Questions whose answer has the days that a date moved.
+MOVED = ("adjust", "monthend", "advance", "deskadjust")
 BATCH = 2000
 EVERY = 10  # seconds between lines of progress
 RULES = "Zero Backward Forward Twentieth TwentiethIMM ThirdWednesday ThirdWednesdayInclusive OldCDS CDS CDS2015".split()
@@ -239,12 +244,27 @@ def judge_coming(line, said, own):
     return "what the Rust's list shows", []
 
 
+def base(words):
+    """The day that a date moved from: the day given, its month's last, or the sum, with its month's last where the month end is given."""
+    day, kind = int(words[1]), words[0]
+    if kind == "monthend":
+        return reference.last_of_month(day)
+    if kind != "advance":
+        return day
+    total = reference.add(day, words[2], int(words[3]))
+    calendar = reference.Words(" ".join(words[6:])).calendar()
+    at_end = words[2] in "MY" and words[5] == "1" and calendar.at_month_end(day)
+    return reference.last_of_month(total) if at_end else total
+
+
 def judge_small(line, said, own, exception):
     """The Rust's answer is None where it cannot be asked."""
     words, names = line.split(), []
     kind = words[0]
-    expected = reference.answer(line)
+    expected = answered = reference.answer(line)
     agree(expected, own)
+    if kind in MOVED:
+        expected = reference.dated(answered)
     if said is None:
         return "ours = the law, " + (expected if expected.startswith("refused") else "given"), []
     if kind == "ixcount" and said != expected:
@@ -269,6 +289,8 @@ def judge_small(line, said, own, exception):
             raise Differs(f"the Rust: {said}\n    the law with the Rust's step: {step}")
         return "left out", ["the CDS back-step to the wrong month: prev20"]
     if said == expected:
+        if kind in MOVED and int(said) - base(words) != int(answered.split()[1]):
+            raise Differs(f"the Rust: {said}, from {base(words)}\n    the law: {answered}")
         return "same", names
     if expected.startswith("refused"):
         number = int(expected.split()[1])

@@ -130,40 +130,51 @@ class Calendar:
         return not self.mask >> (day - 1) % 7 & 1 and day not in self.shut
 
     def search(self, day, step):
-        """The first open day of the thirty-one that start at the day."""
-        for _ in range(SEARCH):
-            if self.open(day):
-                return within_span(day)
-            day += step
+        """The first open day of the thirty-one that start at the day, and how many days it lies after it."""
+        for moved in range(0, step * SEARCH, step):
+            if self.open(day + moved):
+                return within_span(day + moved), moved
         raise Refused(CLOSED)
 
-    def adjust(self, day, convention):
+    def moved(self, day, convention):
+        """The adjusted date, and the days that it moved."""
         if convention == UNADJUSTED:
-            return day
+            return day, 0
         step = 1 if convention in (FOLLOWING, MODIFIED_FOLLOWING) else -1
-        found = self.search(day, step)
+        found, moved = self.search(day, step)
         if convention in (MODIFIED_FOLLOWING, MODIFIED_PRECEDING) and civil(found).month != civil(day).month:
             return self.search(day, -step)
-        return found
+        return found, moved
+
+    def adjust(self, day, convention):
+        return self.moved(day, convention)[0]
+
+    def month_end_moved(self, day):
+        return self.moved(last_of_month(day), PRECEDING)
 
     def month_end(self, day):
-        return self.adjust(last_of_month(day), PRECEDING)
+        return self.month_end_moved(day)[0]
 
     def at_month_end(self, day):
         return civil(self.adjust(day + 1, FOLLOWING)).month != civil(day).month
 
-    def advance(self, day, unit, length, convention, month_end):
+    def advance_moved(self, day, unit, length, convention, month_end):
+        """The date, and the days that the adjustments on the way to it moved it."""
         if unit == "D":
             if not self.mask and not self.shut:
-                return within_span(day + length)
-            step = 1 if length > 0 else -1
+                return within_span(day + length), 0
+            step, over = 1 if length > 0 else -1, 0
             for _ in range(abs(length)):
-                day = self.search(day + step, step)
-            return day
-        moved = add(day, unit, length)
+                day, moved = self.search(day + step, step)
+                over += moved
+            return day, over
+        total = add(day, unit, length)
         if month_end and unit != "W" and self.at_month_end(day):
-            return self.month_end(moved)
-        return self.adjust(moved, convention)
+            return self.month_end_moved(total)
+        return self.moved(total, convention)
+
+    def advance(self, day, unit, length, convention, month_end):
+        return self.advance_moved(day, unit, length, convention, month_end)[0]
 
 
 class DeskCalendar(Calendar):
@@ -501,7 +512,7 @@ BYTES = {"build": BUILD, "trace": BUILD, "lent": tuple((at + 4, size) for at, si
          "adjust": ((2, 5),), "deskadjust": ((2, 5),), "advance": ((2, UNIT), (4, 5), (5, 2)), "next20": ((2, 10),), "prev20": ((2, 10),),
          "dateadvance": ((2, UNIT),), "times": ((1, UNIT),), "yearparts": ((2, 3),), "yearfraction": ((1, 3),),
          **{kind: ((2, 2),) for kind in "immdate immcode nextdate nextdatecode nextcode nextcodecode".split()}}
-RECORD = 6
+RECORD = 7
 
 
 def outside(words):
@@ -547,7 +558,8 @@ def read_build(w, previous=previous_twentieth):
 
 def said(b):
     """What a build has come to."""
-    return " ".join(map(str, ["ok", b.rule, b.unit, b.length, len(b.dates), *b.dates, *map(int, b.flags), *b.unadjusted]))
+    moved = max(abs(paid - before) for paid, before in zip(b.dates, b.unadjusted))
+    return " ".join(map(str, ["ok", b.rule, b.unit, b.length, len(b.dates), *b.dates, *map(int, b.flags), *b.unadjusted, moved]))
 
 
 def said_build(b, room):
@@ -556,7 +568,7 @@ def said_build(b, room):
 
 
 def paid(answered):
-    """A build's answer without its unadjusted dates: the words of the Rust."""
+    """A build's answer without its unadjusted dates and how far they moved: the words of the Rust."""
     words = answered.split()
     return " ".join(words[:4 + 2 * int(words[4])]) if words[0] == "ok" else answered
 
@@ -655,10 +667,19 @@ def ask_open(w):
     return int(calendar.open(day))
 
 
+def with_move(answer):
+    return "%d %d" % answer
+
+
+def dated(answered):
+    """An answer of a date and a move without the move: the words of the Rust."""
+    return answered if answered.startswith("refused") else answered.split()[0]
+
+
 def ask_adjust(w):
     day, convention, calendar = w.book(), w.number(), w.calendar()
     calendar.check()
-    return calendar.adjust(day, convention)
+    return with_move(calendar.moved(day, convention))
 
 
 def ask_deskrun(w):
@@ -681,13 +702,13 @@ def ask_deskcombine(w):
 def ask_deskadjust(w):
     day, convention, calendar = w.book(), w.number(), DeskCalendar(w.number(), w.dates(), w.dates())
     calendar.check()
-    return calendar.adjust(day, convention)
+    return with_move(calendar.moved(day, convention))
 
 
 def ask_monthend(w):
     day, calendar = w.book(), w.calendar()
     calendar.check()
-    return calendar.month_end(day)
+    return with_move(calendar.month_end_moved(day))
 
 
 def ask_ismonthend(w):
@@ -702,7 +723,7 @@ def ask_advance(w):
     calendar = w.calendar()
     calendar.check()
     need(abs(length) <= LIMITS[unit], TENOR)
-    return calendar.advance(day, unit, length, convention, month_end)
+    return with_move(calendar.advance_moved(day, unit, length, convention, month_end))
 
 
 def ask_nextdatecode(w):

@@ -92,8 +92,10 @@ def kept(questions, count, group, share):
 
 
 def law(line):
-    """The law's answer in the words of the Rust, which has no unadjusted dates."""
+    """The law's answer in the words of the Rust, which has no unadjusted dates and no moves."""
     answer = reference.answer(line)
+    if line.split()[0] in compare.MOVED:
+        return reference.dated(answer)
     return reference.paid(answer) if line.startswith("build ") else answer
 
 

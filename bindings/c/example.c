@@ -41,7 +41,8 @@ int main(void) {
         print_refusal("build", count);
         return 1;
     }
-    printf("%" PRId64 " dates, %" PRIu32 " tries\n", count, answer[HERONSPAN_TRIES]);
+    printf("%" PRId64 " dates, %" PRIu32 " tries, moved by %" PRIu32 " days at most\n", count, answer[HERONSPAN_TRIES],
+           answer[HERONSPAN_MOVED]);
     for (int64_t i = 0; i < count; i++) {
         print_day(dates[i]);
         printf("%s", i == 0 ? "" : flags[i - 1] ? " R" : " S");

@@ -47,12 +47,13 @@ int64_t __wrap_heronspan_build(uint32_t effective, uint32_t termination, int32_t
 }
 #elif defined FAULT_CALENDAR
 /* Modified Following from the last day of a month of 31 days leaves the month. */
-int64_t __real_heronspan_adjust(uint32_t, uint8_t, uint8_t, const uint32_t *, size_t);
-int64_t __wrap_heronspan_adjust(uint32_t day, uint8_t convention, uint8_t mask, const uint32_t *closed, size_t count)
+int64_t __real_heronspan_adjust(uint32_t, uint8_t, uint8_t, const uint32_t *, size_t, int32_t *, size_t);
+int64_t __wrap_heronspan_adjust(uint32_t day, uint8_t convention, uint8_t mask, const uint32_t *closed, size_t count, int32_t *moved,
+                                size_t places)
 {
     if (convention == 2 && heronspan_fields(day) % 100 == 31)
         convention = 1;
-    return __real_heronspan_adjust(day, convention, mask, closed, count);
+    return __real_heronspan_adjust(day, convention, mask, closed, count, moved, places);
 }
 #elif defined FAULT_IMM
 /* The next IMM date of the main cycle may be the day itself. */

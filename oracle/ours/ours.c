@@ -5,7 +5,7 @@
 #include "../../include/heronspan.h"
 #include "question.h"
 
-enum { PLACES = 4096, EXTRA = 4, RECORD = 6, ROOM = -14 };
+enum { PLACES = 4096, EXTRA = 4, RECORD = 7, ROOM = -14 };
 
 /* Answers. */
 
@@ -67,6 +67,19 @@ static void say_count(int64_t n, const int32_t *out, int64_t without_place, cons
         say("answered %lld", (long long)n);
     else
         say("%s%ld", before, (long)out[0]);
+}
+
+/* A date, and the days that it moved. */
+static void say_moved(int64_t n, const int32_t *out, int64_t without_place, const int32_t *untouched)
+{
+    if (without_place != ROOM || *untouched != UNWRITTEN)
+        say("without a place %lld", (long long)without_place);
+    else if (out[1] != UNWRITTEN || (n < 0 && out[0] != UNWRITTEN))
+        say("wrote elsewhere");
+    else if (n < 0)
+        say_number(n);
+    else
+        say("%lld %ld", (long long)n, (long)out[0]);
 }
 
 static void say_difference(uint32_t a, uint32_t b)
@@ -139,7 +152,7 @@ static int recorded(int64_t n)
 {
     if (answer[0] != (n < 0 ? (uint32_t)-n : 0) || answer[1] != (n < 0 ? 0 : (uint32_t)n))
         return 0;
-    return n >= 0 || (answer[2] == 0 && answer[3] == 0 && answer[4] == 0 && answer[5] == 0);
+    return n >= 0 || (answer[2] == 0 && answer[3] == 0 && answer[4] == 0 && answer[5] == 0 && answer[6] == 0);
 }
 
 /* Asks for a build; the request is the bytes last read where none is given. */
@@ -185,6 +198,7 @@ static void say_build(const struct build *b, struct lent l)
         say(" %u", flags[i]);
     for (int64_t i = 0; i < n; i++)
         say(" %u", unadjusted[i]);
+    say(" %u", answer[6]);
 }
 
 /* Tries, and the least room that suffices: looked for from one place below the list's own length. */
@@ -402,6 +416,7 @@ static void say_combined(size_t places, struct dates desk, struct dates house)
 
 static int ask_calendar(const char *kind)
 {
+    int32_t out[2] = {UNWRITTEN, UNWRITTEN}, none = UNWRITTEN;
     if (is(kind, "check")) {
         struct calendar c = calendar();
         say_number(heronspan_calendar_check(c.mask, c.closed, c.count));
@@ -413,7 +428,8 @@ static int ask_calendar(const char *kind)
         uint32_t d = day();
         uint8_t convention = byte();
         struct calendar c = calendar();
-        say_number(heronspan_adjust(d, convention, c.mask, c.closed, c.count));
+        int64_t n = heronspan_adjust(d, convention, c.mask, c.closed, c.count, out, 1);
+        say_moved(n, out, heronspan_adjust(d, convention, c.mask, c.closed, c.count, &none, 0), &none);
     } else if (is(kind, "deskrun")) {
         uint32_t year = (uint32_t)number();
         struct dates desk = dates_in(0), house = dates_in(1);
@@ -422,7 +438,8 @@ static int ask_calendar(const char *kind)
         uint32_t d = day();
         uint8_t convention = byte(), mask = byte();
         struct dates desk = dates_in(0), house = dates_in(1);
-        say_number(heronspan_desk_adjust(d, convention, mask, desk.at, desk.count, house.at, house.count));
+        int64_t n = heronspan_desk_adjust(d, convention, mask, desk.at, desk.count, house.at, house.count, out, 1);
+        say_moved(n, out, heronspan_desk_adjust(d, convention, mask, desk.at, desk.count, house.at, house.count, &none, 0), &none);
     } else if (is(kind, "deskcombine")) {
         size_t places = (size_t)number();
         struct dates desk = dates_in(0), house = dates_in(1);
@@ -432,7 +449,8 @@ static int ask_calendar(const char *kind)
     } else if (is(kind, "monthend")) {
         uint32_t d = day();
         struct calendar c = calendar();
-        say_number(heronspan_calendar_month_end(d, c.mask, c.closed, c.count));
+        int64_t n = heronspan_calendar_month_end(d, c.mask, c.closed, c.count, out, 1);
+        say_moved(n, out, heronspan_calendar_month_end(d, c.mask, c.closed, c.count, &none, 0), &none);
     } else if (is(kind, "ismonthend")) {
         uint32_t d = day();
         struct calendar c = calendar();
@@ -443,7 +461,8 @@ static int ask_calendar(const char *kind)
         int32_t length = count();
         uint8_t convention = byte(), monthend = byte();
         struct calendar c = calendar();
-        say_number(heronspan_calendar_advance(d, length, u, convention, monthend, c.mask, c.closed, c.count));
+        int64_t n = heronspan_calendar_advance(d, length, u, convention, monthend, c.mask, c.closed, c.count, out, 1);
+        say_moved(n, out, heronspan_calendar_advance(d, length, u, convention, monthend, c.mask, c.closed, c.count, &none, 0), &none);
     } else {
         return 0;
     }

@@ -17,10 +17,10 @@ from datetime import date
 from enum import IntEnum
 from fractions import Fraction
 from pathlib import Path
-from typing import Iterable, Optional, Sequence
+from typing import Iterable, NamedTuple, Optional, Sequence
 
 __all__ = [
-    "Basis", "Calendar", "Coming", "Convention", "Index", "Order", "Parts", "Reader", "Refusal", "Refused", "Request", "Rule", "Schedule", "Sums",
+    "Basis", "Calendar", "Coming", "Convention", "Index", "Moved", "Order", "Parts", "Reader", "Refusal", "Refused", "Request", "Rule", "Schedule", "Sums",
     "Unit", "WEEKENDS", "advance", "build",
     "build_bytes", "coming", "compare", "difference", "holidays", "holidays_file", "imm_code", "imm_date", "is_imm_code", "is_imm_date", "make", "month_end", "next_imm_code",
     "next_imm_date", "next_twentieth", "next_weekday", "nth_weekday", "previous_twentieth", "refusal_name", "times",
@@ -137,10 +137,10 @@ _PARAMETERS = {
     "times": [_i32, _u8, _i32, *_counts],
     "calendar_check": [_u8, *_days],
     "is_open": [_u32, _u8, *_days],
-    "adjust": [_u32, _u8, _u8, *_days],
-    "calendar_month_end": [_u32, _u8, *_days],
+    "adjust": [_u32, _u8, _u8, *_days, *_counts],
+    "calendar_month_end": [_u32, _u8, *_days, *_counts],
     "is_month_end": [_u32, _u8, *_days],
-    "calendar_advance": [_u32, _i32, _u8, _u8, _u8, _u8, *_days],
+    "calendar_advance": [_u32, _i32, _u8, _u8, _u8, _u8, *_days, *_counts],
     "index_make": [_u8, *_days, *_days],
     "index_count": [_u32, _u32, _u8, *_days, *_days],
     "index_nth": [_u32, _u32, _u8, *_days, *_days],
@@ -148,7 +148,7 @@ _PARAMETERS = {
     "index_remove": [_u32, _u8, *_days, *_days],
     "desk_check": [*_days, *_days, _u32],
     "desk_run": [*_days, *_days, _u32, *_days],
-    "desk_adjust": [_u32, _u8, _u8, *_days, *_days],
+    "desk_adjust": [_u32, _u8, _u8, *_days, *_days, *_counts],
     "desk_combine": [*_days, *_days, *_days],
     "is_imm_date": [_u32, _u8],
     "is_imm_code": [*_bytes, _u8],
@@ -300,6 +300,19 @@ def times(tenor: int, unit: Unit, count: int) -> int:
 # ---- calendars
 
 
+class Moved(NamedTuple):
+    """A date, and how many days it moved, later being positive."""
+
+    date: date
+    days: int
+
+
+def _moved(name: str, *lent: object) -> Moved:
+    days = (_i32 * 1)()
+    answer = _date(_ask(name, *lent, days, 1))
+    return Moved(answer, days[0])
+
+
 class Calendar:
     """Weekly closed days, Monday the lowest bit of the mask, and closed dates in ascending order."""
 
@@ -312,12 +325,12 @@ class Calendar:
     def is_open(self, day: Optional[date]) -> bool:
         return _ask("is_open", _number(day), *self._lent) == 1
 
-    def adjust(self, day: Optional[date], convention: Convention) -> date:
-        return _date(_ask("adjust", _number(day), _byte(convention), *self._lent))
+    def adjust(self, day: Optional[date], convention: Convention) -> Moved:
+        return _moved("adjust", _number(day), _byte(convention), *self._lent)
 
-    def month_end(self, day: Optional[date]) -> date:
-        """The last open day of the date's month."""
-        return _date(_ask("calendar_month_end", _number(day), *self._lent))
+    def month_end(self, day: Optional[date]) -> Moved:
+        """The last open day of the date's month, moved from the month's last day."""
+        return _moved("calendar_month_end", _number(day), *self._lent)
 
     def is_month_end(self, day: Optional[date]) -> bool:
         """Whether the date is the last open day of its month, or after it. No date is not."""
@@ -330,10 +343,11 @@ class Calendar:
         unit: Unit,
         convention: Convention = Convention.FOLLOWING,
         monthend: bool = False,
-    ) -> date:
-        """The date moved by the tenor: days are open days, the other units are added and adjusted."""
+    ) -> Moved:
+        """The date moved by the tenor: days are open days, the other units are added and adjusted. The days are those from the sum, of natural
+        days for open ones, or from its month's last day where the month end is given."""
         lent = (_signed(tenor), _byte(unit), _byte(convention), int(monthend), *self._lent)
-        return _date(_ask("calendar_advance", _number(day), *lent))
+        return _moved("calendar_advance", _number(day), *lent)
 
 
 class Index:
@@ -411,9 +425,9 @@ class DeskCalendar:
         name, dates = ((None, ()), ("desk", self.desk), ("house", self.house))[place[0]]
         return Run(name, dates, place[1], count)
 
-    def adjust(self, day: Optional[date], convention: Convention) -> date:
+    def adjust(self, day: Optional[date], convention: Convention) -> Moved:
         """The date adjusted, each day that is tried open or closed by the run of its own year."""
-        return _date(_ask("desk_adjust", _number(day), _byte(convention), self.mask, *self._lists))
+        return _moved("desk_adjust", _number(day), _byte(convention), self.mask, *self._lists)
 
     def combined(self, room: int = MOST) -> Calendar:
         """One calendar in place of the two lists, in which the same days are open: the desk's dates, and the house's whose year has none of
@@ -521,7 +535,7 @@ def year_report(dates: Iterable[Optional[date]]) -> Sums:
 @dataclass(frozen=True)
 class Schedule:
     """Paid dates, for each the date that it was before adjustment, and for each period between them whether it is regular; what
-    was tried, and the rule and tenor in force."""
+    was tried, the rule and tenor in force, and the greatest number of days that a date moved."""
 
     dates: list[date]
     unadjusted: list[date]
@@ -530,6 +544,7 @@ class Schedule:
     rule: Rule
     tenor: int
     unit: Unit
+    moved: int
 
     def year_fractions(self, basis: Basis) -> list[float]:
         """The year fraction of each period, on the paid dates."""
@@ -709,8 +724,8 @@ def _asked(effective, termination, tenor, unit, rule, convention, terminal, mont
 
 
 def _built(name: str, room: int, *asked: object) -> Schedule:
-    dates, flags, unadjusted, record = (_u32 * room)(), (_u8 * room)(), (_u32 * room)(), (_u32 * 6)()
-    count = _ask(name, *asked, dates, room, flags, room, unadjusted, room, record, 6)
+    dates, flags, unadjusted, record = (_u32 * room)(), (_u8 * room)(), (_u32 * room)(), (_u32 * 7)()
+    count = _ask(name, *asked, dates, room, flags, room, unadjusted, room, record, 7)
     return Schedule(
         dates=[_date(day) for day in dates[:count]],
         unadjusted=[_date(day) for day in unadjusted[:count]],
@@ -719,4 +734,5 @@ def _built(name: str, room: int, *asked: object) -> Schedule:
         rule=Rule(record[3]),
         tenor=record[4],
         unit=Unit(record[5]),
+        moved=record[6],
     )

@@ -98,16 +98,20 @@ class Dates(Refusals):
 class Calendars(Refusals):
     def test_conventions(self) -> None:
         calendar = h.Calendar(h.WEEKENDS)
-        self.assertEqual(calendar.adjust(date(2025, 5, 31), Convention.FOLLOWING), date(2025, 6, 2))
-        self.assertEqual(calendar.adjust(date(2025, 5, 31), Convention.MODIFIED_FOLLOWING), date(2025, 5, 30))
-        self.assertEqual(calendar.month_end(date(2025, 5, 1)), date(2025, 5, 30))
+        self.assertEqual(calendar.adjust(date(2025, 5, 31), Convention.UNADJUSTED), (date(2025, 5, 31), 0))
+        self.assertEqual(calendar.adjust(date(2025, 5, 31), Convention.FOLLOWING), (date(2025, 6, 2), 2))
+        self.assertEqual(calendar.adjust(date(2025, 5, 31), Convention.MODIFIED_FOLLOWING), (date(2025, 5, 30), -1))
+        self.assertEqual(calendar.month_end(date(2025, 5, 15)), h.Moved(date(2025, 5, 30), -1))
+        self.refused("BOOK", calendar.adjust, None, Convention.FOLLOWING)
         self.assertTrue(calendar.is_month_end(date(2025, 5, 30)))
         self.assertFalse(calendar.is_month_end(None))
 
     def test_closed_dates(self) -> None:
         calendar = h.Calendar(h.WEEKENDS, days("2025-04-18", "2025-04-21"))
         self.assertFalse(calendar.is_open(date(2025, 4, 18)))
-        self.assertEqual(calendar.advance(date(2025, 4, 17), 1, Unit.DAYS), date(2025, 4, 22))
+        self.assertEqual(calendar.advance(date(2025, 4, 17), 1, Unit.DAYS), (date(2025, 4, 22), 4))
+        self.assertEqual(calendar.advance(date(2025, 4, 22), -1, Unit.DAYS), (date(2025, 4, 17), -4))
+        self.assertEqual(calendar.advance(date(2025, 2, 28), 1, Unit.MONTHS, monthend=True), (date(2025, 3, 31), 0))
         self.refused("TENOR", calendar.advance, date(2025, 4, 17), 367, Unit.DAYS)
 
     def test_a_desk_over_the_house(self) -> None:
@@ -119,10 +123,10 @@ class Calendars(Refusals):
         self.refused("BOOK", calendar.run, 1799)
         self.refused("BOOK", calendar.check, 2400)
         self.assertIsNone(calendar.check(1800))
-        self.assertEqual(calendar.adjust(date(2025, 12, 25), Convention.FOLLOWING), date(2025, 12, 26))
-        self.assertEqual(h.DeskCalendar(h.WEEKENDS, (), house).adjust(date(2025, 12, 25), Convention.FOLLOWING), date(2025, 12, 29))
+        self.assertEqual(calendar.adjust(date(2025, 12, 25), Convention.FOLLOWING), (date(2025, 12, 26), 1))
+        self.assertEqual(h.DeskCalendar(h.WEEKENDS, (), house).adjust(date(2025, 12, 25), Convention.FOLLOWING), (date(2025, 12, 29), 4))
         at_end = h.DeskCalendar(h.WEEKENDS, days("2025-12-31"), house)
-        self.assertEqual(at_end.adjust(date(2025, 12, 31), Convention.FOLLOWING), date(2026, 1, 5))
+        self.assertEqual(at_end.adjust(date(2025, 12, 31), Convention.FOLLOWING), (date(2026, 1, 5), 5))
         self.refused("CALENDAR", h.DeskCalendar, 0, days("2025-12-25"), days("2025-12-26", "2025-12-25"))
 
     def test_a_desk_and_the_house_as_one_calendar(self) -> None:
@@ -133,7 +137,7 @@ class Calendars(Refusals):
         for back in range(40):
             day = date(2026, 1, 10) - timedelta(back)
             self.assertEqual(one.adjust(day, Convention.FOLLOWING), calendar.adjust(day, Convention.FOLLOWING))
-        self.assertEqual(one.advance(date(2025, 12, 24), 2, Unit.DAYS), date(2025, 12, 29))
+        self.assertEqual(one.advance(date(2025, 12, 24), 2, Unit.DAYS), (date(2025, 12, 29), 3))
         self.assertEqual(h.DeskCalendar(0, (), house).combined().closed, tuple(house))
         self.assertEqual(h.DeskCalendar(0, house).combined(4).closed, tuple(house))
         at_end = h.DeskCalendar(0, days("2025-12-31"), days("2024-12-31", "2025-01-01", "2025-12-30", "2026-01-01"))
@@ -250,7 +254,7 @@ class Schedules(Refusals):
         self.assertEqual(built.dates, days("2025-01-15", "2025-03-20", "2025-06-20", "2025-09-20", "2025-12-20"))
         self.assertEqual(built.unadjusted, built.dates)
         self.assertEqual(built.regular, [False, True, True, True])
-        self.assertEqual((built.tries, built.rule, built.tenor, built.unit), (4, Rule.BACKWARD, 3, Unit.MONTHS))
+        self.assertEqual((built.tries, built.rule, built.tenor, built.unit, built.moved), (4, Rule.BACKWARD, 3, Unit.MONTHS, 0))
 
     def test_room(self) -> None:
         asked = (date(2025, 1, 15), date(2025, 12, 20), 3, Unit.MONTHS)
@@ -267,8 +271,19 @@ class Schedules(Refusals):
         weekends = h.Calendar(h.WEEKENDS)
         built = h.build(*asked, convention=Convention.FOLLOWING, terminal=Convention.UNADJUSTED, calendar=weekends)
         self.assertEqual(built.dates[-2:], days("2025-09-22", "2025-12-20"))
+        self.assertEqual(built.moved, 2)
         built = h.build(*asked, convention=Convention.UNADJUSTED, terminal=Convention.FOLLOWING, calendar=weekends)
         self.assertEqual(built.dates[-2:], days("2025-09-20", "2025-12-22"))
+
+    def test_how_far_dates_moved(self) -> None:
+        """Of the entries that are left: here the merge drops the one that moved. A size, whatever the direction."""
+        saturday, weekends = date(2025, 3, 1), h.Calendar(h.WEEKENDS)
+        built = h.build(saturday, saturday, 0, Unit.DAYS, Rule.ZERO, Convention.FOLLOWING, Convention.UNADJUSTED, calendar=weekends)
+        self.assertEqual((built.dates, built.moved), ([saturday], 0))
+        built = h.build(saturday, saturday, 1, Unit.MONTHS, convention=Convention.PRECEDING, terminal=Convention.PRECEDING, calendar=weekends)
+        self.assertEqual((built.dates, built.moved), (days("2025-02-28"), 1))
+        built = h.build(date(2025, 1, 30), date(2025, 5, 30), 1, Unit.MONTHS, monthend=True)
+        self.assertEqual(built.moved, max(abs((paid - before).days) for paid, before in zip(built.dates, built.unadjusted)))
 
     def entries(self, effective: str, termination: str, tenor: int, unit: Unit, closed: str = "", **named) -> list[tuple[str, str]]:
         """Paid and unadjusted dates of a build, weekends closed."""
@@ -296,16 +311,16 @@ class Schedules(Refusals):
 
     def test_three_lists_of_one_length(self) -> None:
         """1 comes before all else but a short record; a refusal leaves the three lists, and later places stay."""
-        def lent(dates: int, flags: int, unadjusted: int, record: int = 6, effective: int = 739252) -> int:
+        def lent(dates: int, flags: int, unadjusted: int, record: int = 7, effective: int = 739252) -> int:
             tenor = (1, Unit.MONTHS, Rule.BACKWARD, Convention.FOLLOWING, Convention.FOLLOWING, 0, 0, 0, h.WEEKENDS, None, 0)
             return h._library.heronspan_build(effective, 739311, *tenor, days_lent, dates, flags_lent, flags, unadjusted_lent, unadjusted, answer, record)
 
         days_lent, flags_lent = (ctypes.c_uint32 * 6)(*[7] * 6), (ctypes.c_uint8 * 6)(*[8] * 6)
-        unadjusted_lent, answer = (ctypes.c_uint32 * 6)(*[9] * 6), (ctypes.c_uint32 * 6)()
+        unadjusted_lent, answer = (ctypes.c_uint32 * 6)(*[9] * 6), (ctypes.c_uint32 * 7)()
         for lengths in ((2, 2, 1), (2, 1, 2), (1, 2, 2), (2, 1, 0), (5, 5, 6)):
             self.assertEqual(lent(*lengths), -h.Refusal.UNEVEN, lengths)
             self.assertEqual(lent(*lengths, effective=0), -h.Refusal.UNEVEN, lengths)
-            self.assertEqual(lent(*lengths, record=5), -h.Refusal.ROOM, lengths)
+            self.assertEqual(lent(*lengths, record=6), -h.Refusal.ROOM, lengths)
         self.assertEqual(lent(2, 2, 2), -h.Refusal.ROOM)
         self.assertEqual(lent(5, 5, 5, effective=0), -h.Refusal.BOOK)
         self.assertEqual((list(days_lent), list(flags_lent), list(unadjusted_lent)), ([7] * 6, [8] * 6, [9] * 6))

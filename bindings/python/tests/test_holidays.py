@@ -69,7 +69,7 @@ class Holidays(unittest.TestCase):
 
     def test_a_calendar_of_them(self) -> None:
         calendar = h.Calendar(h.WEEKENDS, h.holidays(events("DTSTART;VALUE=DATE:20250501")))
-        self.assertEqual(calendar.adjust(MAY, h.Convention.FOLLOWING), date(2025, 5, 2))
+        self.assertEqual(calendar.adjust(MAY, h.Convention.FOLLOWING).date, date(2025, 5, 2))
 
 
 class HolidaysFile(unittest.TestCase):

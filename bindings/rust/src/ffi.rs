@@ -18,8 +18,23 @@ extern "C" {
     pub fn heronspan_times(tenor: i32, unit: u8, count: i32, out: *mut i32, out_len: usize) -> i64;
     pub fn heronspan_calendar_check(mask: u8, closed: *const u32, closed_len: usize) -> i64;
     pub fn heronspan_is_open(day: u32, mask: u8, closed: *const u32, closed_len: usize) -> i64;
-    pub fn heronspan_adjust(day: u32, convention: u8, mask: u8, closed: *const u32, closed_len: usize) -> i64;
-    pub fn heronspan_calendar_month_end(day: u32, mask: u8, closed: *const u32, closed_len: usize) -> i64;
+    pub fn heronspan_adjust(
+        day: u32,
+        convention: u8,
+        mask: u8,
+        closed: *const u32,
+        closed_len: usize,
+        moved: *mut i32,
+        moved_len: usize,
+    ) -> i64;
+    pub fn heronspan_calendar_month_end(
+        day: u32,
+        mask: u8,
+        closed: *const u32,
+        closed_len: usize,
+        moved: *mut i32,
+        moved_len: usize,
+    ) -> i64;
     pub fn heronspan_is_month_end(day: u32, mask: u8, closed: *const u32, closed_len: usize) -> i64;
     pub fn heronspan_calendar_advance(
         day: u32,
@@ -30,6 +45,8 @@ extern "C" {
         mask: u8,
         closed: *const u32,
         closed_len: usize,
+        moved: *mut i32,
+        moved_len: usize,
     ) -> i64;
     pub fn heronspan_index_make(
         mask: u8,
@@ -90,6 +107,8 @@ extern "C" {
         desk_len: usize,
         house: *const u32,
         house_len: usize,
+        moved: *mut i32,
+        moved_len: usize,
     ) -> i64;
     pub fn heronspan_desk_combine(
         desk: *const u32,

@@ -271,6 +271,20 @@ pub fn times(tenor: i32, unit: Unit, count: i32) -> Answer<i32> {
     Ok(out[0])
 }
 
+/// A date, and how many days it moved, later being positive.
+#[derive(Clone, Copy, Debug, PartialEq, Eq)]
+pub struct Moved {
+    pub date: Date,
+    pub days: i32,
+}
+
+/// What a function answers that is lent a list of one place for the days.
+fn moved(ask: impl FnOnce(*mut i32, usize) -> i64) -> Answer<Moved> {
+    let mut days = [0];
+    let date = day(ask(days.as_mut_ptr(), days.len()))?;
+    Ok(Moved { date, days: days[0] })
+}
+
 /// Weekly closed days, Monday the lowest bit of the mask, and closed dates in ascending order.
 #[derive(Clone, Debug, Default, PartialEq, Eq)]
 pub struct Calendar {
@@ -299,15 +313,19 @@ impl Calendar {
         truth(unsafe { ffi::heronspan_is_open(date.0, self.mask, list, len) })
     }
 
-    pub fn adjust(&self, date: Date, convention: Convention) -> Answer<Date> {
+    pub fn adjust(&self, date: Date, convention: Convention) -> Answer<Moved> {
         let (list, len) = self.lent();
-        day(unsafe { ffi::heronspan_adjust(date.0, convention as u8, self.mask, list, len) })
+        moved(|days, places| unsafe {
+            ffi::heronspan_adjust(date.0, convention as u8, self.mask, list, len, days, places)
+        })
     }
 
-    /// The last open day of the date's month.
-    pub fn month_end(&self, date: Date) -> Answer<Date> {
+    /// The last open day of the date's month, moved from the month's last day.
+    pub fn month_end(&self, date: Date) -> Answer<Moved> {
         let (list, len) = self.lent();
-        day(unsafe { ffi::heronspan_calendar_month_end(date.0, self.mask, list, len) })
+        moved(|days, places| unsafe {
+            ffi::heronspan_calendar_month_end(date.0, self.mask, list, len, days, places)
+        })
     }
 
     /// Whether the date is the last open day of its month, or after it. No date is not.
@@ -316,10 +334,11 @@ impl Calendar {
         truth(unsafe { ffi::heronspan_is_month_end(date.0, self.mask, list, len) })
     }
 
-    /// The date moved by the tenor: days are open days, the other units are added and adjusted.
-    pub fn advance(&self, date: Date, tenor: i32, unit: Unit, convention: Convention, monthend: bool) -> Answer<Date> {
+    /// The date moved by the tenor: days are open days, the other units are added and adjusted. The days are those from the sum, of natural
+    /// days for open ones, or from its month's last day where the month end is given.
+    pub fn advance(&self, date: Date, tenor: i32, unit: Unit, convention: Convention, monthend: bool) -> Answer<Moved> {
         let (list, len) = self.lent();
-        day(unsafe {
+        moved(|days, places| unsafe {
             ffi::heronspan_calendar_advance(
                 date.0,
                 tenor,
@@ -329,6 +348,8 @@ impl Calendar {
                 self.mask,
                 list,
                 len,
+                days,
+                places,
             )
         })
     }
@@ -444,9 +465,9 @@ impl<'a> DeskCalendar<'a> {
     }
 
     /// The date adjusted, each day that is tried open or closed by the run of its own year.
-    pub fn adjust(&self, date: Date, convention: Convention) -> Answer<Date> {
+    pub fn adjust(&self, date: Date, convention: Convention) -> Answer<Moved> {
         let (desk, house) = (self.desk, self.house);
-        day(unsafe {
+        moved(|days, places| unsafe {
             ffi::heronspan_desk_adjust(
                 date.0,
                 convention as u8,
@@ -455,6 +476,8 @@ impl<'a> DeskCalendar<'a> {
                 desk.len(),
                 house.as_ptr().cast(),
                 house.len(),
+                days,
+                places,
             )
         })
     }
@@ -528,7 +551,7 @@ pub mod imm {
 }
 
 /// Paid dates, for each the date that it was before adjustment, and for each period between them whether it is regular; the tries,
-/// and the rule and the tenor in force.
+/// the rule and the tenor in force, and the greatest number of days that a date moved.
 #[derive(Clone, Debug, PartialEq, Eq)]
 pub struct Schedule {
     pub dates: Vec<Date>,
@@ -538,6 +561,7 @@ pub struct Schedule {
     pub rule: Rule,
     pub tenor: u32,
     pub unit: Unit,
+    pub moved: u32,
 }
 
 /// The first date of a schedule after an asked day.
@@ -760,11 +784,11 @@ impl Schedule {
     }
 
     /// What a build leaves in the lists that are lent to it.
-    fn lent(room: usize, build: impl FnOnce(&mut [u32], &mut [u8], &mut [u32], &mut [u32; 6]) -> i64) -> Answer<Schedule> {
+    fn lent(room: usize, build: impl FnOnce(&mut [u32], &mut [u8], &mut [u32], &mut [u32; 7]) -> i64) -> Answer<Schedule> {
         let mut dates = vec![0u32; room];
         let mut flags = vec![0u8; room];
         let mut unadjusted = vec![0u32; room];
-        let mut record = [0u32; 6];
+        let mut record = [0u32; 7];
         let count = told(build(&mut dates, &mut flags, &mut unadjusted, &mut record))? as usize;
         let given = |list: &[u32]| list[..count].iter().map(|&n| Date(n)).collect();
         Ok(Schedule {
@@ -775,6 +799,7 @@ impl Schedule {
             rule: RULES[record[3] as usize],
             tenor: record[4],
             unit: UNITS[record[5] as usize],
+            moved: record[6],
         })
     }
 }

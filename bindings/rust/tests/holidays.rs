@@ -14,7 +14,7 @@ fn read() {
     let dates = holidays(&event("DTSTART;VALUE=DATE:20250501\nDTEND;VALUE=DATE:20250503")).unwrap();
     assert_eq!(dates, [day(2025, 5, 1), day(2025, 5, 2)]);
     let calendar = Calendar::new(0x60, &dates).unwrap();
-    assert_eq!(calendar.adjust(day(2025, 5, 1), Convention::Following), Ok(day(2025, 5, 5)));
+    assert_eq!(calendar.adjust(day(2025, 5, 1), Convention::Following).unwrap().date, day(2025, 5, 5));
 }
 
 #[test]

@@ -1,9 +1,13 @@
 //! Sums by hand of document 01, and what is refused.
-use heronspan::{imm, times, year_fraction, year_parts, year_report, Basis, Calendar, Coming, Convention, Date, DeskCalendar, Index, Parts, Refusal, Request, Rule, Schedule, Sums, Unit};
+use heronspan::{imm, times, year_fraction, year_parts, year_report, Basis, Calendar, Coming, Convention, Date, DeskCalendar, Index, Moved, Parts, Refusal, Request, Rule, Schedule, Sums, Unit};
 use std::cmp::Ordering;
 
 fn day(year: u32, month: u32, day: u32) -> Date {
     Date::make(year, month, day).unwrap()
+}
+
+fn moved(year: u32, month: u32, date: u32, days: i32) -> Result<Moved, Refusal> {
+    Ok(Moved { date: day(year, month, date), days })
 }
 
 fn quarterly() -> Request {
@@ -42,15 +46,17 @@ fn a_missing_date_is_refused() {
 #[test]
 fn calendars() {
     let weekends = Calendar::new(Calendar::WEEKENDS, &[]).unwrap();
-    assert_eq!(weekends.adjust(day(2025, 5, 31), Convention::Following), Ok(day(2025, 6, 2)));
-    assert_eq!(weekends.adjust(day(2025, 5, 31), Convention::ModifiedFollowing), Ok(day(2025, 5, 30)));
-    assert_eq!(weekends.month_end(day(2025, 5, 1)), Ok(day(2025, 5, 30)));
+    assert_eq!(weekends.adjust(day(2025, 5, 31), Convention::Unadjusted), moved(2025, 5, 31, 0));
+    assert_eq!(weekends.adjust(day(2025, 5, 31), Convention::Following), moved(2025, 6, 2, 2));
+    assert_eq!(weekends.adjust(day(2025, 5, 31), Convention::ModifiedFollowing), moved(2025, 5, 30, -1));
+    assert_eq!(weekends.adjust(Date::NONE, Convention::Following), Err(Refusal::Book));
+    assert_eq!(weekends.month_end(day(2025, 5, 15)), moved(2025, 5, 30, -1));
     assert_eq!(weekends.is_month_end(day(2025, 5, 30)), Ok(true));
     assert_eq!(weekends.is_month_end(Date::NONE), Ok(false));
     let easter = Calendar::new(Calendar::WEEKENDS, &[day(2025, 4, 18), day(2025, 4, 21)]).unwrap();
     assert_eq!(easter.is_open(day(2025, 4, 18)), Ok(false));
     let next = easter.advance(day(2025, 4, 17), 1, Unit::Days, Convention::Following, false);
-    assert_eq!(next, Ok(day(2025, 4, 22)));
+    assert_eq!(next, moved(2025, 4, 22, 4));
     assert_eq!(Calendar::new(127, &[]), Err(Refusal::Calendar));
 }
 
@@ -90,9 +96,9 @@ fn a_desk_over_the_house() {
     assert_eq!(calendar.run(2024), Ok(&[][..]));
     assert_eq!(calendar.run(1799), Err(Refusal::Book));
     assert_eq!((calendar.check(1800), calendar.check(2400)), (Ok(()), Err(Refusal::Book)));
-    assert_eq!(calendar.adjust(day(2025, 12, 25), Convention::Following), Ok(day(2025, 12, 26)));
+    assert_eq!(calendar.adjust(day(2025, 12, 25), Convention::Following), moved(2025, 12, 26, 1));
     let none = DeskCalendar::new(Calendar::WEEKENDS, &[], &house).unwrap();
-    assert_eq!(none.adjust(day(2025, 12, 25), Convention::Following), Ok(day(2025, 12, 29)));
+    assert_eq!(none.adjust(day(2025, 12, 25), Convention::Following), moved(2025, 12, 29, 4));
     assert_eq!(DeskCalendar::new(0, &[], &[day(2026, 1, 2), day(2026, 1, 1)]), Err(Refusal::Calendar));
 }
 
@@ -142,6 +148,7 @@ fn schedules() {
     assert_eq!(built.unadjusted, dates);
     assert_eq!(built.regular, [false, true, true, true]);
     assert_eq!((built.tries, built.rule, built.tenor, built.unit), (4, Rule::Backward, 3, Unit::Months));
+    assert_eq!(built.moved, 0);
     assert_eq!(quarterly().room(5).build(), Ok(built));
     assert_eq!(quarterly().room(4).build(), Err(Refusal::Room));
     assert_eq!(quarterly().first(day(2025, 1, 15)).build(), Err(Refusal::FirstDate));

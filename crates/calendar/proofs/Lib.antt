@@ -4,3 +4,4 @@ pub mod Members
 pub mod Days
 pub mod OneMonth
 pub mod Ways
+pub mod Moving

@@ -1,7 +1,7 @@
 -- What a comparison tells of where the place is.
 -- Assumes nothing.
-use Prim.Native.Nat.{ℕ, _+_, _≤_, _<_}
-use mathlib.Core.Path.{_≡_, sym}
+use Prim.Native.Nat.{ℕ, _+_, _-_, _≤_, _<_}
+use mathlib.Core.Path.{_≡_, sym, subst}
 use mathlib.Core.Bool.{true}
 use mathlib.Core.List.{List}
 use mathlib.Core.Logic.{⊎-elim}
@@ -52,6 +52,13 @@ module _ {closed : List ℕ} {x lo hi : ℕ} (b : Bracket closed x lo hi) where
         below = b .below;
         from = λ ok k l r. b .from ok k (omega arith) r;
       }
+
+-- dates before a place that are earlier than x
+pub bracket-behind : {closed : List ℕ} {x : ℕ} (place : ℕ) → (place ≡ 0 → ⊥) → place ≤ length closed → getD closed (place - 1) 0 < x → Bracket closed x place (length closed)
+bracket-behind {closed} {x} place n h c =
+    let some : 1 ≤ place = omega (arith, n) in
+    let e : place - 1 + 1 ≡ place = omega arith in
+    subst (λ (p : ℕ). Bracket closed x p (length closed)) e (bracket-up bracket-start (omega arith) (omega arith) c)
 
 -- ---- the place of the next day
 module _ {closed : List ℕ} {x at : ℕ} (b : LowerBound closed x at) where

@@ -8,11 +8,8 @@ use native.Mathlib.Omega.{arith}
 use lib.ListN.{length, getD}
 use lib.Dec.{eqb, leb}
 use borrow.Author.Tests.{leb-true, eqb-true, eqb-false, eq-eqb, ne-eqb, not-true, not-false}
-use Rattle.refusal.specs.Answer.{Answer, given, refused, need, then, BOOK, TENOR}
+use Rattle.refusal.specs.Answer.{Answer, given, refused, need, then, BOOK}
 use Rattle.refusal.specs.Laws.Answers.{need-given, then-given, then-refused, both}
-use lib.IntN.{ℤ, natAbs}
-use Rattle.period.specs.Period.{isNegative}
-use Rattle.period.specs.declared.Unit.{Unit}
 use Rattle.date.specs.declared.Date.{Date}
 use Rattle.date.specs.declared.Dated.{Dated}
 use Rattle.date.specs.declared.Dated.the-variants.{Day, Refused}
@@ -28,21 +25,14 @@ use Rattle.calendar.specs.Open.{weeklyClosed, isOpen, closedOk, calendar
 use Rattle.calendar.specs.Inner.Places.{LowerBound}
 use Rattle.calendar.specs.Inner.Near.{OneMonth, Known, Adjusts}
 use Rattle.calendar.specs.AnyCalendar as any
-use Rattle.calendar.specs.Adjust.{inSpan, sameMonth, adjusted, towards, openSteps, advanced}
-use Rattle.calendar.specs.Calendar.{placed, tenorOk}
+use Rattle.calendar.specs.Adjust.{inSpan, sameMonth, adjusted, towards, openSteps}
+use Rattle.calendar.specs.Calendar.{placed}
 use Rattle.calendar.specs.Laws.Search.{adjusted-first}
-use Rattle.calendar.specs.Laws.Guards.{barred, cleared}
 use Rattle.calendar.specs.Laws.Conventions.{span-one, within-given, within-refused, following-one, modified-kept, modified-left, modified-refused}
 use Rattle.calendar.proofs.Places.{strictly}
 use Rattle.calendar.proofs.OneMonth.{start-known, start-left}
 use Rattle.calendar.specs.Laws.Told.{ok-closed}
 use Rattle.calendar.proofs.Members.{present, between, above-from, above-end, shut-week, shut-listed, is-open}
-
--- ---- rows of the table
-module _ {A B : Type 0} where
-  -- what a call handed on is what it answered
-  pub then-same : (x y : Answer A) (f : A → Answer B) (r : Answer B) → r ≡ then x f → x ≡ y → r ≡ then y f
-  then-same x y f r h e = h ∙ ap (λ (a : Answer A). then a f) e
 
 -- ---- so many days from a day that lies in the span
 pub no-span : {A : Type 0} (t : Bool) (day : ℕ) → t ≡ inSpan day → not t ≡ true → inSpan day ≡ true → A
@@ -172,18 +162,3 @@ shut-mask mask closed e = sym (rw (eq-eqb (mask % 128) 127 e))
 pub open-mask : (mask : ℕ) (closed : List ℕ) (r : Bool) → (mask % 128 ≡ 127 → ⊥) → r ≡ closedOk closed → r ≡ calendarOk mask closed
 unfolding calendarOk
 open-mask mask closed r e h = rw (ne-eqb (mask % 128) 127 e) h
-
--- ---- advance: the sign and the size of the length, as the calls gave them
-module _ (length sent : ℤ) (unit : Unit) (size : ℕ) (short : Bool) (same : sent ≡ length) (s : size ≡ natAbs sent) (q : short ≡ tenorOk size unit) where
-  test : short ≡ tenorOk (natAbs length) unit
-  test = q ∙ ap (λ (k : ℕ). tenorOk k unit) (s ∙ ap natAbs same)
-
-  pub tenor-long : (x : Answer ℕ) → not short ≡ true → refused TENOR ≡ need TENOR (tenorOk (natAbs length) unit) x
-  tenor-long x e = barred _ _ _ _ test e
-
-  pub tenor-fits : (mask : ℕ) (closed : List ℕ) (convention : Convention) (endOfMonth : Bool) (day : ℕ) (back : Bool) (r : Answer ℕ) → back ≡ isNegative sent → not short ≡ false → r ≡ advanced mask closed back size unit convention endOfMonth day → r ≡ need TENOR (tenorOk (natAbs length) unit) (advanced mask closed (isNegative length) (natAbs length) unit convention endOfMonth day)
-  tenor-fits mask closed convention endOfMonth day back r n e h =
-      cleared _ _ _ _ _ test e
-      (h
-      ∙ ap (λ (b : Bool). advanced mask closed b size unit convention endOfMonth day) (n ∙ ap isNegative same)
-      ∙ ap (λ (k : ℕ). advanced mask closed (isNegative length) k unit convention endOfMonth day) (s ∙ ap natAbs same))

@@ -2,3 +2,4 @@
 pub mod Near
 pub mod Places
 pub mod Always
+pub mod Reach

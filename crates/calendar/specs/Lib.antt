@@ -4,4 +4,5 @@ pub mod Inner
 pub mod AnyCalendar
 pub mod Adjust
 pub mod Calendar
+pub mod Moves
 pub mod Sums

@@ -4,7 +4,7 @@ use Prim.Native.Nat.{ℕ, zero, suc, _+_}
 use mathlib.Core.Path.{_≡_, refl}
 use mathlib.Core.Bool.{Bool, true, false}
 use mathlib.Core.List.{List, [], _∷_}
-use lib.IntN.{pos, negsuc}
+use lib.IntN.{ℤ, pos, negsuc}
 use Rattle.refusal.specs.Answer.{Answer, given, refused, need, then, BOOK, CALENDAR, TENOR, CLOSED}
 use Rattle.period.specs.declared.Unit.the-variants.{Days, Weeks, Months, Years}
 use Rattle.date.specs.Civil.{leap, rowOf, monthLength, gone, sumTo, dayNumber, guess, yearsGone, monthIn, dayIn, placeOf, fieldsAt}
@@ -14,6 +14,7 @@ use Rattle.calendar.specs.Open.{weeklyClosed, member, isOpen, ascending,
 use Rattle.calendar.specs.AnyCalendar as any
 use Rattle.calendar.specs.Adjust.{inSpan, sameMonth, takenOr, unlessLeft, towards}
 use Rattle.calendar.specs.Calendar.{Sound, sound, checkOf, isOpenOf, adjustOf, lastOpenOf, unlessEmpty, isMonthEndOf, longest, tenorOk, advancedOf}
+use Rattle.calendar.specs.Moves.{movedFrom, landBase, monthsBase, advanceBase, adjustMoveOf, lastOpenMoveOf, advanceMoveOf}
 
 -- 1 for yes and for a sound calendar, 0 for no
 unfoldable told : Answer Bool → Answer ℕ
@@ -160,3 +161,45 @@ rows =
 worked : lefts rows ≡ rights rows
 unfolding lefts rights told passed run need then leap rowOf monthLength gone sumTo dayNumber guess yearsGone monthIn dayIn placeOf fieldsAt inBook withinSpan makeOf lastOfMonth monthIndex inMonth step shiftDays shiftMonths shifted weeklyClosed member isOpen ascending closedOk calendarOk inSpan takenOr any.firstOpen any.found sameMonth unlessLeft any.modified any.byConvention any.adjusted any.lastOpen any.atMonthEnd towards any.openSteps any.endAsked any.landed any.addMonths any.addWeeks any.byUnit any.advanced checkOf isOpenOf adjustOf lastOpenOf unlessEmpty isMonthEndOf longest tenorOk advancedOf
 worked = refl
+
+-- ---- how far dates moved (change request L8): the date and the days, weekends closed
+data MoveRow : Type 0 where
+  goes : Answer (ℕ × ℤ) → (date : ℕ) → (days : ℤ) → MoveRow
+
+unfoldable asked : List MoveRow → List (Answer (ℕ × ℤ))
+asked [] = []
+asked (goes a date days ∷ rs) = a ∷ asked rs
+
+unfoldable answers : List MoveRow → List (Answer (ℕ × ℤ))
+answers [] = []
+answers (goes a date days ∷ rs) = given (date, days) ∷ answers rs
+
+abbrev moves : List MoveRow
+moves =
+    -- 2025-05-31, a Saturday; a Modified convention has the move of the date that it answers
+    goes (adjustMoveOf weekends [] Unadjusted (dayNumber 2025 5 31)) (dayNumber 2025 5 31) (pos 0) ∷
+    goes (adjustMoveOf weekends [] Following (dayNumber 2025 5 31)) (dayNumber 2025 6 2) (pos 2) ∷
+    goes (adjustMoveOf weekends [] ModifiedFollowing (dayNumber 2025 5 31)) (dayNumber 2025 5 30) (negsuc 0) ∷
+    goes (adjustMoveOf weekends [] Preceding (dayNumber 2025 5 31)) (dayNumber 2025 5 30) (negsuc 0) ∷
+    goes (adjustMoveOf weekends [] ModifiedPreceding (dayNumber 2025 5 31)) (dayNumber 2025 5 30) (negsuc 0) ∷
+    goes (adjustMoveOf weekends [] Following (dayNumber 2025 5 30)) (dayNumber 2025 5 30) (pos 0) ∷
+    -- thirty days, the most
+    goes (adjustMoveOf 0 march Following (dayNumber 2025 3 2)) (dayNumber 2025 4 1) (pos 30) ∷
+    goes (adjustMoveOf 0 march Preceding (dayNumber 2025 3 30)) (dayNumber 2025 2 28) (negsuc 29) ∷
+    -- a month end moves from the month's last day
+    goes (lastOpenMoveOf weekends [] (dayNumber 2025 5 15)) (dayNumber 2025 5 30) (negsuc 0) ∷
+    goes (lastOpenMoveOf weekends [] (dayNumber 2025 6 1)) (dayNumber 2025 6 30) (pos 0) ∷
+    -- weeks, months and years from the sum, or from its month's last day where the month end is given
+    goes (advanceMoveOf weekends [] (pos 1) Weeks Following false (dayNumber 2025 5 24)) (dayNumber 2025 6 2) (pos 2) ∷
+    goes (advanceMoveOf weekends [] (pos 1) Months Following true (dayNumber 2025 2 28)) (dayNumber 2025 3 31) (pos 0) ∷
+    goes (advanceMoveOf weekends [] (pos 3) Months Unadjusted true (dayNumber 2025 5 30)) (dayNumber 2025 8 29) (negsuc 1) ∷
+    goes (advanceMoveOf weekends [] (pos 1) Years ModifiedFollowing false (dayNumber 2025 5 31)) (dayNumber 2026 5 29) (negsuc 1) ∷
+    -- open days from the start and as many natural days
+    goes (advanceMoveOf weekends [] (pos 2) Days Following false (dayNumber 2025 5 30)) (dayNumber 2025 6 3) (pos 2) ∷
+    goes (advanceMoveOf weekends [] (negsuc 0) Days Following false (dayNumber 2025 6 2)) (dayNumber 2025 5 30) (negsuc 1) ∷
+    goes (advanceMoveOf weekends [] (pos 0) Days Following false (dayNumber 2025 5 31)) (dayNumber 2025 5 31) (pos 0) ∷
+    []
+
+worked-moves : asked moves ≡ answers moves
+unfolding asked answers run need then leap rowOf monthLength gone sumTo dayNumber guess yearsGone monthIn dayIn placeOf fieldsAt inBook withinSpan makeOf lastOfMonth monthIndex inMonth step shiftDays shiftMonths shifted weeklyClosed member isOpen ascending closedOk calendarOk inSpan takenOr any.firstOpen any.found sameMonth unlessLeft any.modified any.byConvention any.adjusted any.lastOpen any.atMonthEnd towards any.openSteps any.endAsked any.landed any.addMonths any.addWeeks any.byUnit any.advanced adjustOf lastOpenOf longest tenorOk advancedOf movedFrom landBase monthsBase advanceBase adjustMoveOf lastOpenMoveOf advanceMoveOf
+worked-moves = refl

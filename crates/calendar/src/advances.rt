@@ -2,15 +2,19 @@
 ghost use mathlib.Core.Path.{_≡_};
 ghost use mathlib.Core.Bool.{true};
 ghost use Rattle.refusal.specs.Answer.{then};
-ghost use Rattle.date.specs.Date.{dated};
+ghost use Rattle.period.specs.declared.Unit.the-variants.{Days, Weeks};
+ghost use Rattle.date.specs.Date.{dated, shifted};
 ghost use Rattle.calendar.specs.Open.{closedOk};
-ghost use Rattle.calendar.specs.Adjust.{openSteps, endAsked, landed, addWeeks, addMonths, advanced};
+ghost use Rattle.calendar.specs.Adjust.{inSpan, openSteps, endAsked, landed, addWeeks, addMonths, advanced};
 ghost use Rattle.calendar.specs.Calendar.{decided};
+ghost use Rattle.calendar.specs.Moves.{moved, movedFrom, landBase, monthsBase, advanceBase};
 use crate::Convention;
 use crate::Decided;
-use crate::conventions;
+use crate::Moved;
 use crate::month_ends;
+use crate::moves;
 use crate::scan;
+use crate::search;
 use date::Date;
 use date::Dated;
 use date::span;
@@ -35,6 +39,23 @@ fn step_open(day: u32, back: bool, size: u32, mask: u8, closed: &[u32]) -> Dated
     Dated::Day(Date { day: at })
 }
 
+// The days are those from so many natural days on, or back: all the steps' moves together.
+fn step_days(day: u32, back: bool, size: u32, mask: u8, closed: &[u32]) -> Moved
+    ensures { λ r. ⌜ (closedOk (now (closed .entry)) ≡ true → inSpan day ≡ true → moved r ≡ movedFrom (shifted day back size Days) (openSteps mask (now (closed .entry)) back size day)) ⌝ }
+{
+    let found = step_open(day, back, size, mask, closed);
+    match found {
+        Dated::Day(date) => {
+            let sum = span::shift_by(day, back, size, Unit::Days);
+            match sum {
+                Dated::Day(base) => moves::to(base.day, Dated::Day(date)),
+                Dated::Refused(n) => Moved::Refused(n),
+            }
+        }
+        Dated::Refused(n) => Moved::Refused(n),
+    }
+}
+
 fn end_asked(day: u32, asked: bool, mask: u8, closed: &[u32]) -> Decided
     ensures { λ r. ⌜ (closedOk (now (closed .entry)) ≡ true → decided r ≡ endAsked mask (now (closed .entry)) asked day) ⌝ }
 {
@@ -51,23 +72,23 @@ fn add_weeks(
     convention: Convention,
     mask: u8,
     closed: &[u32],
-) -> Dated
-    ensures { λ r. ⌜ (closedOk (now (closed .entry)) ≡ true → dated r ≡ addWeeks mask (now (closed .entry)) back size convention day) ⌝ }
+) -> Moved
+    ensures { λ r. ⌜ (closedOk (now (closed .entry)) ≡ true → moved r ≡ movedFrom (shifted day back size Weeks) (addWeeks mask (now (closed .entry)) back size convention day)) ⌝ }
 {
-    let moved = span::shift_by(day, back, size, Unit::Weeks);
-    match moved {
-        Dated::Day(to) => conventions::searched(to.day, convention, mask, closed),
-        Dated::Refused(n) => Dated::Refused(n),
+    let sum = span::shift_by(day, back, size, Unit::Weeks);
+    match sum {
+        Dated::Day(to) => search::adjust(to.day, convention, mask, closed),
+        Dated::Refused(n) => Moved::Refused(n),
     }
 }
 
-fn land(moved: u32, convention: Convention, end: Decided, mask: u8, closed: &[u32]) -> Dated
-    ensures { λ r. ⌜ (closedOk (now (closed .entry)) ≡ true → dated r ≡ then (decided end) (landed mask (now (closed .entry)) convention moved)) ⌝ }
+fn land(sum: u32, convention: Convention, end: Decided, mask: u8, closed: &[u32]) -> Moved
+    ensures { λ r. ⌜ (closedOk (now (closed .entry)) ≡ true → moved r ≡ movedFrom (then (decided end) (landBase sum)) (then (decided end) (landed mask (now (closed .entry)) convention sum))) ⌝ }
 {
     match end {
-        Decided::Yes => month_ends::last_open(moved, mask, closed),
-        Decided::No => conventions::searched(moved, convention, mask, closed),
-        Decided::Refused(n) => Dated::Refused(n),
+        Decided::Yes => month_ends::last_open(sum, mask, closed),
+        Decided::No => search::adjust(sum, convention, mask, closed),
+        Decided::Refused(n) => Moved::Refused(n),
     }
 }
 
@@ -81,11 +102,11 @@ fn add_months(
     monthend: bool,
     mask: u8,
     closed: &[u32],
-) -> Dated
-    ensures { λ r. ⌜ (closedOk (now (closed .entry)) ≡ true → dated r ≡ addMonths mask (now (closed .entry)) back size unit convention monthend day) ⌝ }
+) -> Moved
+    ensures { λ r. ⌜ (closedOk (now (closed .entry)) ≡ true → moved r ≡ movedFrom (monthsBase mask (now (closed .entry)) back size unit monthend day) (addMonths mask (now (closed .entry)) back size unit convention monthend day)) ⌝ }
 {
-    let moved = span::shift_by(day, back, size, unit);
-    match moved {
+    let sum = span::shift_by(day, back, size, unit);
+    match sum {
         Dated::Day(to) => land(
             to.day,
             convention,
@@ -93,7 +114,7 @@ fn add_months(
             mask,
             closed,
         ),
-        Dated::Refused(n) => Dated::Refused(n),
+        Dated::Refused(n) => Moved::Refused(n),
     }
 }
 
@@ -106,14 +127,14 @@ pub fn advance(
     monthend: bool,
     mask: u8,
     closed: &[u32],
-) -> Dated
-    ensures { λ r. ⌜ (closedOk (now (closed .entry)) ≡ true → dated r ≡ advanced mask (now (closed .entry)) back size unit convention monthend day) ⌝ }
+) -> Moved
+    ensures { λ r. ⌜ (closedOk (now (closed .entry)) ≡ true → moved r ≡ movedFrom (advanceBase mask (now (closed .entry)) back size unit monthend day) (advanced mask (now (closed .entry)) back size unit convention monthend day)) ⌝ }
 {
     if !scan::in_span(day) {
-        return Dated::Refused(refusal::BOOK);
+        return Moved::Refused(refusal::BOOK);
     }
     match unit {
-        Unit::Days => step_open(day, back, size, mask, closed),
+        Unit::Days => step_days(day, back, size, mask, closed),
         Unit::Weeks => add_weeks(day, back, size, convention, mask, closed),
         Unit::Months => add_months(
             day,

@@ -1,6 +1,7 @@
 // A list of closed dates: at most 4,096, strictly ascending, from 1800-01-01 to 2399-12-31.
 ghost use mathlib.Core.Path.{_≡_};
-ghost use Prim.Native.Nat.{_+_};
+ghost use mathlib.Core.Bool.{true};
+ghost use Prim.Native.Nat.{_+_, _≤_};
 ghost use lib.ListN.{length};
 ghost use Rattle.calendar.specs.Open.{closedOk};
 ghost use Rattle.calendar.specs.Inner.Places.{Bracket, LowerBound};
@@ -87,8 +88,35 @@ pub fn lower_bound(closed: &[u32], x: u32) -> usize
     bisect(closed, x, 0, closed.len())
 }
 
-// The same place, looked for from a guess: it costs the logarithm of how far the guess was off.
-pub fn place_near(closed: &[u32], x: u32, guess: usize) -> usize
+// Whether the dates before the place are earlier than x.
+fn is_behind(closed: &[u32], x: u32, place: usize) -> bool
+    requires { ⌜ place ≤ length (now closed) ⌝ }
+    ensures { λ r. ⌜ (r ≡ true → Bracket (now (closed .entry)) x place (length (now (closed .entry)))) ⌝ }
+{
+    if place == 0 {
+        return true;
+    }
+    closed[place - 1] < x
+}
+
+// Whether a guess is the place, as that of a day near by mostly is.
+fn is_place(closed: &[u32], x: u32, guess: usize) -> bool
+    ensures { λ r. ⌜ (r ≡ true → LowerBound (now (closed .entry)) x guess) ⌝ }
+{
+    if guess < closed.len() {
+        if closed[guess] < x {
+            return false;
+        }
+        return is_behind(closed, x, guess);
+    }
+    if closed.len() < guess {
+        return false;
+    }
+    is_behind(closed, x, guess)
+}
+
+// The place, looked for from a guess: it costs the logarithm of how far the guess was off.
+fn look_near(closed: &[u32], x: u32, guess: usize) -> usize
     ensures { λ r. ⌜ LowerBound (now (closed .entry)) x r ⌝ }
 {
     if guess < closed.len() {
@@ -98,6 +126,19 @@ pub fn place_near(closed: &[u32], x: u32, guess: usize) -> usize
         return place_up_to(closed, x, guess);
     }
     place_up_to(closed, x, closed.len())
+}
+
+// The same place from a guess.
+pub fn place_near(closed: &[u32], x: u32, guess: usize) -> usize
+    ensures { λ r. ⌜ LowerBound (now (closed .entry)) x r ⌝ }
+{
+    if closed.len() == 0 {
+        return 0;
+    }
+    if is_place(closed, x, guess) {
+        return guess;
+    }
+    look_near(closed, x, guess)
 }
 
 // The place of the next day, from that of a day.

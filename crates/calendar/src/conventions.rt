@@ -7,7 +7,6 @@ ghost use Rattle.calendar.specs.Open.{closedOk};
 ghost use Rattle.calendar.specs.Inner.Places.{LowerBound};
 ghost use Rattle.calendar.specs.Adjust.{adjusted};
 use crate::Convention;
-use crate::closed_dates;
 use crate::months;
 use crate::scan;
 use date::Dated;
@@ -62,16 +61,4 @@ pub(crate) fn search_from(
         Convention::Preceding => scan::preceding_from(place, day, mask, closed),
         Convention::ModifiedPreceding => modified_preceding(place, day, mask, closed),
     }
-}
-
-pub(crate) fn searched(day: u32, convention: Convention, mask: u8, closed: &[u32]) -> Dated
-    ensures { λ r. ⌜ (closedOk (now (closed .entry)) ≡ true → dated r ≡ adjusted mask (now (closed .entry)) convention day) ⌝ }
-{
-    search_from(
-        closed_dates::lower_bound(closed, day),
-        day,
-        convention,
-        mask,
-        closed,
-    )
 }

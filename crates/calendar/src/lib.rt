@@ -1,10 +1,9 @@
 // Open days of a calendar: weekly closed days, Monday the lowest bit of the mask, and a lent list of closed dates.
 ghost use mathlib.Core.Path.{_≡_};
-ghost use Rattle.date.specs.Date.{dated};
 ghost use Rattle.calendar.specs.Open.{calendarOk};
-ghost use Rattle.calendar.specs.Calendar.{checked, decided, checkOf, isOpenOf, adjustOf, lastOpenOf, isMonthEndOf, tenorOk, advancedOf};
+ghost use Rattle.calendar.specs.Calendar.{checked, decided, checkOf, isOpenOf, isMonthEndOf, tenorOk};
+ghost use Rattle.calendar.specs.Moves.{moved, adjustMoveOf, lastOpenMoveOf, advanceMoveOf};
 use date::Date;
-use date::Dated;
 use date::in_book;
 use period::Period;
 use period::Unit;
@@ -19,6 +18,7 @@ mod conventions;
 // For the crates above, on days from 1800 to 2399 and a list that they have checked.
 pub mod advances;
 pub mod month_ends;
+pub mod moves;
 pub mod scan;
 pub mod search;
 
@@ -38,6 +38,12 @@ pub enum Checked {
 pub enum Decided {
     Yes,
     No,
+    Refused(u8),
+}
+
+// An adjusted date, and the days that it moved, later being positive.
+pub enum Moved {
+    Day { date: Date, days: i32 },
     Refused(u8),
 }
 
@@ -87,29 +93,29 @@ pub fn is_open(date: Date, mask: u8, closed: &[u32]) -> Decided
     Decided::No
 }
 
-pub fn adjust(date: Date, convention: Convention, mask: u8, closed: &[u32]) -> Dated
-    ensures { λ r. ⌜ dated r ≡ adjustOf mask (now (closed .entry)) convention (date .day) ⌝ }
+pub fn adjust(date: Date, convention: Convention, mask: u8, closed: &[u32]) -> Moved
+    ensures { λ r. ⌜ moved r ≡ adjustMoveOf mask (now (closed .entry)) convention (date .day) ⌝ }
 {
     let day = date.day;
     if !in_book(day) {
-        return Dated::Refused(refusal::BOOK);
+        return Moved::Refused(refusal::BOOK);
     }
     if !is_sound(mask, closed) {
-        return Dated::Refused(refusal::CALENDAR);
+        return Moved::Refused(refusal::CALENDAR);
     }
     search::adjust(day, convention, mask, closed)
 }
 
-// The last open day of the date's month.
-pub fn month_end(date: Date, mask: u8, closed: &[u32]) -> Dated
-    ensures { λ r. ⌜ dated r ≡ lastOpenOf mask (now (closed .entry)) (date .day) ⌝ }
+// The last open day of the date's month, and the days from the month's last day to it.
+pub fn month_end(date: Date, mask: u8, closed: &[u32]) -> Moved
+    ensures { λ r. ⌜ moved r ≡ lastOpenMoveOf mask (now (closed .entry)) (date .day) ⌝ }
 {
     let day = date.day;
     if !in_book(day) {
-        return Dated::Refused(refusal::BOOK);
+        return Moved::Refused(refusal::BOOK);
     }
     if !is_sound(mask, closed) {
-        return Dated::Refused(refusal::CALENDAR);
+        return Moved::Refused(refusal::CALENDAR);
     }
     month_ends::last_open(day, mask, closed)
 }
@@ -134,7 +140,8 @@ pub fn is_month_end(date: Date, mask: u8, closed: &[u32]) -> Decided
     month_ends::at_month_end(day, mask, closed)
 }
 
-// The date moved by the period: days are open days, the other units are added and adjusted.
+// The date moved by the period: days are open days, the other units are added and adjusted. The days are those from the sum to it, or from the
+// sum's month end where the month end is given.
 pub fn advance(
     date: Date,
     tenor: Period,
@@ -142,21 +149,21 @@ pub fn advance(
     monthend: bool,
     mask: u8,
     closed: &[u32],
-) -> Dated
-    ensures { λ r. ⌜ dated r ≡ advancedOf mask (now (closed .entry)) (tenor .length) (tenor .unit) convention monthend (date .day) ⌝ }
+) -> Moved
+    ensures { λ r. ⌜ moved r ≡ advanceMoveOf mask (now (closed .entry)) (tenor .length) (tenor .unit) convention monthend (date .day) ⌝ }
 {
     let day = date.day;
     if !in_book(day) {
-        return Dated::Refused(refusal::BOOK);
+        return Moved::Refused(refusal::BOOK);
     }
     if !is_sound(mask, closed) {
-        return Dated::Refused(refusal::CALENDAR);
+        return Moved::Refused(refusal::CALENDAR);
     }
     let back = sign::is_negative(tenor.length);
     let size = sign::size(tenor.length);
     let unit = tenor.unit;
     if !is_short(size, unit) {
-        return Dated::Refused(refusal::TENOR);
+        return Moved::Refused(refusal::TENOR);
     }
     advances::advance(day, back, size, unit, convention, monthend, mask, closed)
 }

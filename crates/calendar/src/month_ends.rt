@@ -2,14 +2,18 @@
 // checked.
 ghost use mathlib.Core.Path.{_≡_};
 ghost use mathlib.Core.Bool.{true};
-ghost use Rattle.date.specs.Date.{dated, step};
+ghost use Rattle.date.specs.Date.{dated, step, lastOfMonth};
 ghost use Rattle.calendar.specs.Open.{closedOk};
 ghost use Rattle.calendar.specs.Adjust.{towards, adjusted, lastOpen, atMonthEnd};
 ghost use Rattle.calendar.specs.Calendar.{decided};
+ghost use Rattle.calendar.specs.Moves.{moved, movedFrom};
+use crate::Convention;
 use crate::Decided;
+use crate::Moved;
 use crate::closed_dates;
 use crate::months;
 use crate::scan;
+use crate::search;
 use date::Dated;
 use date::span;
 use period::Unit;
@@ -25,13 +29,13 @@ fn toward(day: u32, back: bool, mask: u8, closed: &[u32]) -> Dated
 }
 
 // The calendar's month end: the last open day of the month, looked for from its last day.
-pub fn last_open(day: u32, mask: u8, closed: &[u32]) -> Dated
-    ensures { λ r. ⌜ (closedOk (now (closed .entry)) ≡ true → dated r ≡ lastOpen mask (now (closed .entry)) day) ⌝ }
+pub fn last_open(day: u32, mask: u8, closed: &[u32]) -> Moved
+    ensures { λ r. ⌜ (closedOk (now (closed .entry)) ≡ true → moved r ≡ movedFrom (lastOfMonth day) (lastOpen mask (now (closed .entry)) day)) ⌝ }
 {
     let last = span::last_of_month(day);
     match last {
-        Dated::Day(end) => toward(end.day, true, mask, closed),
-        Dated::Refused(n) => Dated::Refused(n),
+        Dated::Day(end) => search::adjust(end.day, Convention::Preceding, mask, closed),
+        Dated::Refused(n) => Moved::Refused(n),
     }
 }
 

@@ -3,6 +3,7 @@
 ghost use mathlib.Core.Path.{_≡_};
 ghost use mathlib.Core.Bool.{true, _&&_};
 ghost use lib.Dec.{leb};
+ghost use Rattle.refusal.specs.Answer.{given};
 ghost use Rattle.date.specs.Date.{dated};
 ghost use Rattle.calendar.specs.Inner.Always.{conventionOn};
 ghost use Rattle.calendar.specs.declared.Convention.the-variants.{ModifiedFollowing};
@@ -10,11 +11,14 @@ ghost use Rattle.calendar.specs.Open.{closedOk};
 ghost use Rattle.calendar.specs.Inner.Places.{LowerBound};
 ghost use Rattle.calendar.specs.Adjust.{adjusted};
 ghost use Rattle.calendar.specs.Calendar.{placed};
+ghost use Rattle.calendar.specs.Moves.{moved, movedFrom};
 ghost use Rattle.calendar.specs.Inner.Near.{OneMonth, Known, Adjusts};
 use crate::Convention;
+use crate::Moved;
 use crate::closed_dates;
 use crate::conventions;
 use crate::months;
+use crate::moves;
 use crate::scan;
 use date::Dated;
 use date::span;
@@ -58,18 +62,21 @@ fn with_near(found: Dated, near: Near) -> Placed
     }
 }
 
-// An open day is its own adjusted date, so only a closed one is searched from.
-pub fn adjust(day: u32, convention: Convention, mask: u8, closed: &[u32]) -> Dated
-    ensures { λ r. ⌜ (closedOk (now (closed .entry)) ≡ true → dated r ≡ adjusted mask (now (closed .entry)) convention day) ⌝ }
+// The adjustment. An open day is its own adjusted date, so only a closed one is searched from.
+pub fn adjust(day: u32, convention: Convention, mask: u8, closed: &[u32]) -> Moved
+    ensures { λ r. ⌜ (closedOk (now (closed .entry)) ≡ true → moved r ≡ movedFrom (given day) (adjusted mask (now (closed .entry)) convention day)) ⌝ }
 {
     match convention {
-        Convention::Unadjusted => span::within(day as u64),
+        Convention::Unadjusted => moves::stay(day),
         _ => {
             let place = closed_dates::lower_bound(closed, day);
             if scan::is_open_at(place, day, mask, closed) {
-                return span::within(day as u64);
+                return moves::stay(day);
             }
-            conventions::search_from(place, day, convention, mask, closed)
+            moves::to(
+                day,
+                conventions::search_from(place, day, convention, mask, closed),
+            )
         }
     }
 }
@@ -120,7 +127,8 @@ fn search_near(near: Near, day: u32, convention: Convention, mask: u8, closed: &
     }
 }
 
-// The same as `adjust` for one day after another: the day's place is looked for from a guess, as the place that a day near it had.
+// The date of `adjust` for one day after another, as the builder's loop compares dates: the day's place is looked for from a guess, as the place
+// that a day near it had. No move is worked out, since the loop puts the date beside its day, and the schedule tells their difference.
 pub fn adjust_near(day: u32, near: Near, convention: Convention, mask: u8, closed: &[u32]) -> Placed
     ensures { λ r. ⌜ (closedOk (now (closed .entry)) ≡ true → OneMonth (near .from) (near .to) → Adjusts mask (now (closed .entry)) convention day r) ⌝ }
 {

@@ -1,13 +1,16 @@
 // Calendars: a mask of weekly closed days, Monday the lowest bit, and a list of closed dates.
 ghost use mathlib.Core.Path.{_≡_};
 ghost use Rattle.refusal.specs.Answer.{then};
-ghost use Rattle.calendar.specs.Calendar.{checkOf, isOpenOf, adjustOf, lastOpenOf, isMonthEndOf, advancedOf};
-ghost use Rattle.crossing.specs.Answers.{oneNumber, itself, yes, done};
+ghost use Rattle.calendar.specs.Calendar.{checkOf, isOpenOf, isMonthEndOf};
+ghost use Rattle.calendar.specs.Moves.{adjustMoveOf, lastOpenMoveOf, advanceMoveOf};
+ghost use Rattle.crossing.specs.Answers.{oneNumber, yes, done, MovePlace};
 ghost use Rattle.crossing.specs.Numbers.{unitOf, conventionOf, flagOf};
+use calendar::Moved;
 use crossing::NamedConvention;
 use crossing::NamedFlag;
 use crossing::NamedUnit;
 use crossing::answers;
+use crossing::counts;
 use date::Date;
 use period::Period;
 
@@ -27,28 +30,38 @@ pub extern "C" fn heronspan_is_open(day: u32, mask: u8, closed: &[u32]) -> i64
     answers::of_decided(calendar::is_open(Date { day }, mask, closed))
 }
 
+// The day adjusted by a convention; the days that it moved are written to the first place, as for a month end and an advance. A list with no
+// place is 14, before all else, and a refusal leaves it as it was.
 #[no_mangle]
-pub extern "C" fn heronspan_adjust(day: u32, convention: u8, mask: u8, closed: &[u32]) -> i64
-    ensures { λ r. ⌜ r ≡ oneNumber itself (then (conventionOf convention) (λ c. adjustOf mask (now (closed .entry)) c day)) ⌝ }
+pub extern "C" fn heronspan_adjust(
+    day: u32,
+    convention: u8,
+    mask: u8,
+    closed: &[u32],
+    moved: &mut [i32],
+) -> i64
+    ensures { λ r. ⌜ MovePlace (then (conventionOf convention) (λ c. adjustMoveOf mask (now (closed .entry)) c day)) r (now (moved .entry)) (now (moved .exit)) ⌝ }
 {
     let named = crossing::convention_of(convention);
     match named {
-        NamedConvention::Is(c) => answers::of_dated(calendar::adjust(
-            Date { day },
-            c,
-            mask,
-            closed,
-        )),
-        NamedConvention::Refused(n) => answers::minus(n),
+        NamedConvention::Is(c) => {
+            counts::put_moved(calendar::adjust(Date { day }, c, mask, closed), moved)
+        }
+        NamedConvention::Refused(n) => counts::put_moved(Moved::Refused(n), moved),
     }
 }
 
-// The last open day of the day's month.
+// The last open day of the day's month, moved from the month's last day.
 #[no_mangle]
-pub extern "C" fn heronspan_calendar_month_end(day: u32, mask: u8, closed: &[u32]) -> i64
-    ensures { λ r. ⌜ r ≡ oneNumber itself (lastOpenOf mask (now (closed .entry)) day) ⌝ }
+pub extern "C" fn heronspan_calendar_month_end(
+    day: u32,
+    mask: u8,
+    closed: &[u32],
+    moved: &mut [i32],
+) -> i64
+    ensures { λ r. ⌜ MovePlace (lastOpenMoveOf mask (now (closed .entry)) day) r (now (moved .entry)) (now (moved .exit)) ⌝ }
 {
-    answers::of_dated(calendar::month_end(Date { day }, mask, closed))
+    counts::put_moved(calendar::month_end(Date { day }, mask, closed), moved)
 }
 
 // 1 where the day is the last open day of its month, or after it; 0 where it is not, as for day 0.
@@ -59,7 +72,8 @@ pub extern "C" fn heronspan_is_month_end(day: u32, mask: u8, closed: &[u32]) -> 
     answers::of_decided(calendar::is_month_end(Date { day }, mask, closed))
 }
 
-// The day moved by the tenor: days are open days, the other units are added and adjusted.
+// The day moved by the tenor: days are open days, the other units are added and adjusted. The days moved are those from the sum, or from its
+// month's last day where the month end is given.
 #[no_mangle]
 pub extern "C" fn heronspan_calendar_advance(
     day: u32,
@@ -69,24 +83,28 @@ pub extern "C" fn heronspan_calendar_advance(
     monthend: u8,
     mask: u8,
     closed: &[u32],
+    moved: &mut [i32],
 ) -> i64
-    ensures { λ r. ⌜ r ≡ oneNumber itself (then (unitOf unit) (λ u. then (conventionOf convention) (λ c. then (flagOf monthend) (λ m. advancedOf mask (now (closed .entry)) tenor u c m day)))) ⌝ }
+    ensures { λ r. ⌜ MovePlace (then (unitOf unit) (λ u. then (conventionOf convention) (λ c. then (flagOf monthend) (λ m. advanceMoveOf mask (now (closed .entry)) tenor u c m day)))) r (now (moved .entry)) (now (moved .exit)) ⌝ }
 {
     let unit = match crossing::unit_of(unit) {
         NamedUnit::Is(u) => u,
-        NamedUnit::Refused(n) => return answers::minus(n),
+        NamedUnit::Refused(n) => return counts::put_moved(Moved::Refused(n), moved),
     };
     let convention = match crossing::convention_of(convention) {
         NamedConvention::Is(c) => c,
-        NamedConvention::Refused(n) => return answers::minus(n),
+        NamedConvention::Refused(n) => return counts::put_moved(Moved::Refused(n), moved),
     };
     let monthend = match crossing::flag_of(monthend) {
         NamedFlag::Is(m) => m,
-        NamedFlag::Refused(n) => return answers::minus(n),
+        NamedFlag::Refused(n) => return counts::put_moved(Moved::Refused(n), moved),
     };
     let tenor = Period {
         length: tenor,
         unit,
     };
-    answers::of_dated(calendar::advance(Date { day }, tenor, convention, monthend, mask, closed))
+    counts::put_moved(
+        calendar::advance(Date { day }, tenor, convention, monthend, mask, closed),
+        moved,
+    )
 }

@@ -2,12 +2,14 @@
 ghost use mathlib.Core.Path.{_≡_};
 ghost use lib.ListN.{length};
 ghost use Rattle.refusal.specs.Answer.{then};
-ghost use Rattle.crossing.specs.Answers.{oneNumber, itself, done};
+ghost use Rattle.crossing.specs.Answers.{oneNumber, itself, done, MovePlace};
 ghost use Rattle.crossing.specs.Numbers.{conventionOf};
-ghost use Rattle.desk.specs.Desk.{entriesIn, runOf, askedOf, adjustOverOf, combined, combineOf, lentAfter};
+ghost use Rattle.desk.specs.Desk.{entriesIn, runOf, askedOf, adjustOverMoveOf, combined, combineOf, lentAfter};
 ghost use Rattle.desk.specs.Runs.{countOf, Written};
+use calendar::Moved;
 use crossing::NamedConvention;
 use crossing::answers;
+use crossing::counts;
 use date::Date;
 
 // 0 where the run of the year is answered.
@@ -31,7 +33,8 @@ pub extern "C" fn heronspan_desk_run(
     answers::of_numbered(desk::write_place(desk, house, year, place))
 }
 
-// The day adjusted by a convention, each day that is tried open or closed by the run of its own year.
+// The day adjusted by a convention, each day that is tried open or closed by the run of its own year; the days that it moved are written to the
+// first place.
 #[no_mangle]
 pub extern "C" fn heronspan_desk_adjust<'a>(
     day: u32,
@@ -39,19 +42,16 @@ pub extern "C" fn heronspan_desk_adjust<'a>(
     mask: u8,
     desk: &'a [u32],
     house: &'a [u32],
+    moved: &mut [i32],
 ) -> i64
-    ensures { λ r. ⌜ r ≡ oneNumber itself (then (conventionOf convention) (λ c. adjustOverOf mask (now (desk .entry)) (now (house .entry)) c day)) ⌝ }
+    ensures { λ r. ⌜ MovePlace (then (conventionOf convention) (λ c. adjustOverMoveOf mask (now (desk .entry)) (now (house .entry)) c day)) r (now (moved .entry)) (now (moved .exit)) ⌝ }
 {
     let named = crossing::convention_of(convention);
     match named {
-        NamedConvention::Is(c) => answers::of_dated(desk::adjust(
-            Date { day },
-            c,
-            mask,
-            desk,
-            house,
-        )),
-        NamedConvention::Refused(n) => answers::minus(n),
+        NamedConvention::Is(c) => {
+            counts::put_moved(desk::adjust(Date { day }, c, mask, desk, house), moved)
+        }
+        NamedConvention::Refused(n) => counts::put_moved(Moved::Refused(n), moved),
     }
 }
 

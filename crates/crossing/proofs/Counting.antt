@@ -13,28 +13,28 @@ use borrow.Author.Tests.{le-leb, lt-leb}
 use Rattle.refusal.specs.Answer.{Answer, given, refused}
 use Rattle.refusal.specs.Laws.Answers.{fails, holds}
 use Rattle.period.specs.Laws.Signed.{same32}
-use Rattle.crossing.specs.Answers.{done, withPlace, placed, FirstPlace}
+use Rattle.crossing.specs.Answers.{withPlace, placed, CountPlace}
 use Rattle.crossing.specs.Laws.Calls.{told-given, told-refused}
 
-module _ (a : Answer ℤ) (list : List ℤ) {r : ℤ} (s : mag r < 9223372036854775808) where
-  pub place-short : length list < 1 → r ≡ negℤ (pos 14) → FirstPlace a (toZ w64 (ofZ w64 r)) list list
+module _ {A : Type 0} (value : A → ℕ) (count : A → ℤ) (a : Answer A) (list : List ℤ) {r : ℤ} (s : mag r < 9223372036854775808) where
+  pub place-short : length list < 1 → r ≡ negℤ (pos 14) → CountPlace value count a (toZ w64 (ofZ w64 r)) list list
   unfolding withPlace placed
   place-short h e =
       let o : refused 14 ≡ withPlace list a = fails 14 _ _ (lt-leb 1 (length list) h) in
-      record { answer = told-refused done s _ 14 e o; list-after = ap (λ (y : Answer ℤ). placed y list) o }
+      record { answer = told-refused value s _ 14 e o; list-after = ap (λ (y : Answer A). placed count y list) o }
 
   module _ (h : 1 ≤ length list) where
-    pub place-refused : (n : ℕ) → a ≡ refused n → r ≡ negℤ (pos n) → FirstPlace a (toZ w64 (ofZ w64 r)) list list
+    pub place-refused : (n : ℕ) → a ≡ refused n → r ≡ negℤ (pos n) → CountPlace value count a (toZ w64 (ofZ w64 r)) list list
     unfolding withPlace placed
     place-refused n p e =
         let o : refused n ≡ withPlace list a = holds 14 _ _ _ (le-leb 1 (length list) h) (sym p) in
-        record { answer = told-refused done s _ n e o; list-after = ap (λ (y : Answer ℤ). placed y list) o }
+        record { answer = told-refused value s _ n e o; list-after = ap (λ (y : Answer A). placed count y list) o }
 
-    pub place-given : (z : ℤ) → SFits w32 z → a ≡ given z → r ≡ pos 0 → FirstPlace a (toZ w64 (ofZ w64 r)) list (set list 0 (toZ w32 (ofZ w32 z)))
+    pub place-given : (v : A) → SFits w32 (count v) → a ≡ given v → r ≡ pos (value v) → CountPlace value count a (toZ w64 (ofZ w64 r)) list (set list 0 (toZ w32 (ofZ w32 (count v))))
     unfolding withPlace placed
-    place-given z f p e =
-        let o : given z ≡ withPlace list a = holds 14 _ _ _ (le-leb 1 (length list) h) (sym p) in
+    place-given v f p e =
+        let o : given v ≡ withPlace list a = holds 14 _ _ _ (le-leb 1 (length list) h) (sym p) in
         record {
-          answer = told-given done s _ z e o;
-          list-after = rw (same32 z f) (ap (λ (y : Answer ℤ). placed y list) o);
+          answer = told-given value s _ v e o;
+          list-after = rw (same32 (count v) f) (ap (λ (y : Answer A). placed count y list) o);
         }

@@ -50,17 +50,25 @@ abbrev pub done : {A : Type 0} → A → ℕ
 done a = 0
 
 -- ---- a count with a sign stands in the first place of a lent list; a list with no place is 14, before all else
-unfoldable pub withPlace : List ℤ → Answer ℤ → Answer ℤ
+unfoldable pub withPlace : {A : Type 0} → List ℤ → Answer A → Answer A
 withPlace list a = need ROOM (leb 1 (length list)) a
 
-unfoldable pub placed : Answer ℤ → List ℤ → List ℤ
-placed (given z) list = set list 0 z
-placed (refused n) list = list
+unfoldable pub placed : {A : Type 0} → (A → ℤ) → Answer A → List ℤ → List ℤ
+placed count (given a) list = set list 0 (count a)
+placed count (refused n) list = list
 
--- the promise of a function that answers a count
-pub record FirstPlace (a : Answer ℤ) (r : ℤ) (list list′ : List ℤ) : Type 0 where
-  pub answer : r ≡ oneNumber done (withPlace list a)
-  pub list-after : list′ ≡ placed (withPlace list a) list
+-- the promise of a function whose answer has a number and a count
+pub record CountPlace {A : Type 0} (value : A → ℕ) (count : A → ℤ) (a : Answer A) (r : ℤ) (list list′ : List ℤ) : Type 0 where
+  pub answer : r ≡ oneNumber value (withPlace list a)
+  pub list-after : list′ ≡ placed count (withPlace list a) list
+
+-- of one that answers a count alone
+abbrev pub FirstPlace : Answer ℤ → (r : ℤ) (list list′ : List ℤ) → Type 0
+FirstPlace = CountPlace done (λ count. count)
+
+-- of one that answers a date and the days that it moved: the date is the number
+abbrev pub MovePlace : Answer (ℕ × ℤ) → (r : ℤ) (list list′ : List ℤ) → Type 0
+MovePlace = CountPlace (λ m. m .0) (λ m. m .1)
 
 -- the length of a period
 unfoldable pub lengthIn : Answer Period → Answer ℤ

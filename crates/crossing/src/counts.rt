@@ -4,10 +4,12 @@ ghost use mathlib.Core.Path.{_≡_};
 ghost use Rattle.refusal.specs.Answer.{then};
 ghost use Rattle.period.specs.Period.{product, timesOf};
 ghost use Rattle.date.specs.Date.{counted};
-ghost use Rattle.crossing.specs.Answers.{FirstPlace, lengthIn};
+ghost use Rattle.calendar.specs.Moves.{moved};
+ghost use Rattle.crossing.specs.Answers.{FirstPlace, MovePlace, lengthIn};
 ghost use Rattle.crossing.specs.Numbers.{unitOf};
 use crate::NamedUnit;
 use crate::answers;
+use calendar::Moved;
 use date::Counted;
 use period::Period;
 use period::Product;
@@ -24,6 +26,22 @@ pub fn put_counted(d: Counted, out: &mut [i32]) -> i64
             answers::value(0)
         }
         Counted::Refused(n) => answers::minus(n),
+    }
+}
+
+// The date, and the days that it moved in the list.
+pub fn put_moved(m: Moved, place: &mut [i32]) -> i64
+    ensures { λ r. ⌜ MovePlace (moved m) r (now (place .entry)) (now (place .exit)) ⌝ }
+{
+    if place.len() < 1 {
+        return answers::minus(refusal::ROOM);
+    }
+    match m {
+        Moved::Day { date, days } => {
+            place[0] = days;
+            answers::value(date.day)
+        }
+        Moved::Refused(n) => answers::minus(n),
     }
 }
 

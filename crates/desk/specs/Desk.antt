@@ -6,12 +6,14 @@ use mathlib.Core.Path.{_≡_}
 use mathlib.Core.List.{List, [], _∷_, _++_}
 use lib.Dec.{eqb, leb, ltb}
 use lib.ListN.{length, drop}
+use lib.IntN.{ℤ}
 use Rattle.refusal.specs.Answer.{Answer, given, refused, need, BOOK, CALENDAR, ROOM, FULL}
 use Rattle.date.specs.Civil.{fieldsOf}
 use Rattle.date.specs.Date.{inBook}
 use Rattle.calendar.specs.declared.Convention.{Convention}
 use Rattle.calendar.specs.Open.{isOpen, closedOk, calendarOk}
 use Rattle.calendar.specs.Calendar.{Sound, sound}
+use Rattle.calendar.specs.Moves.{movedFrom}
 use Rattle.calendar.specs.AnyCalendar as any
 
 unfoldable pub yearOf : (day : ℕ) → ℕ
@@ -60,6 +62,10 @@ unfoldable pub adjustOverOf : (mask : ℕ) (desk house : List ℕ) → Conventio
 adjustOverOf mask desk house convention day =
     need BOOK (inBook day)
     (need CALENDAR (calendarsOk mask desk house) (any.adjusted (opensOver mask desk house) convention day))
+
+-- how far it moved (change request L8), from the day given
+unfoldable pub adjustOverMoveOf : (mask : ℕ) (desk house : List ℕ) → Convention → (day : ℕ) → Answer (ℕ × ℤ)
+adjustOverMoveOf mask desk house convention day = movedFrom (given day) (adjustOverOf mask desk house convention day)
 
 -- ---- the combined list: the desk's entries, and the house's whose year has none of the desk's, ascending
 unfoldable pub hasNone : (list : List ℕ) → Bool

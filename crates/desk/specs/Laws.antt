@@ -1,6 +1,7 @@
 -- What is proved of the definitions beside this folder, for proofs that stand on them.
 pub mod Ascending
 pub mod Entries
+pub mod HowFar
 pub mod Years
 pub mod Cut
 pub mod Runs

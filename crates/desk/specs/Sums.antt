@@ -4,14 +4,16 @@ use Prim.Native.Nat.{ℕ, zero, suc, _+_}
 use mathlib.Core.Path.{_≡_, refl}
 use mathlib.Core.Bool.{Bool, true, false}
 use mathlib.Core.List.{List, [], _∷_}
+use lib.IntN.{pos}
 use Rattle.refusal.specs.Answer.{Answer, given, refused, need, then, BOOK, CALENDAR, CLOSED, ROOM}
 use Rattle.date.specs.Civil.{leap, rowOf, monthLength, gone, sumTo, dayNumber, guess, yearsGone, monthIn, dayIn, placeOf, fieldsAt}
 use Rattle.date.specs.Date.{inBook, withinSpan, monthIndex, step}
 use Rattle.calendar.specs.declared.Convention.the-variants.{Unadjusted, Following, ModifiedFollowing, Preceding, ModifiedPreceding}
 use Rattle.calendar.specs.Open.{weeklyClosed, member, isOpen, ascending, closedOk, calendarOk}
 use Rattle.calendar.specs.Calendar.{Sound, sound}
+use Rattle.calendar.specs.Moves.{movedFrom}
 use Rattle.calendar.specs.AnyCalendar.{inSpan, sameMonth, takenOr, unlessLeft, firstOpen, found, modified, byConvention, adjusted}
-use Rattle.desk.specs.Desk.{yearOf, kept, entriesIn, orElse, runOf, inYears, askedOf, handedOver, lookupOf, opensOver, calendarsOk, adjustOverOf, hasNone, leftTo, before, put, putIf, combined, combineOf, lentAfter}
+use Rattle.desk.specs.Desk.{yearOf, kept, entriesIn, orElse, runOf, inYears, askedOf, handedOver, lookupOf, opensOver, calendarsOk, adjustOverOf, adjustOverMoveOf, hasNone, leftTo, before, put, putIf, combined, combineOf, lentAfter}
 
 unfoldable asked : Answer Sound → ℕ
 asked (given sound) = 0
@@ -105,6 +107,11 @@ answers-are =
 worked-answers : answers ≡ answers-are
 unfolding need then leap rowOf gone sumTo dayNumber guess yearsGone monthIn dayIn placeOf fieldsAt inBook withinSpan monthIndex step weeklyClosed member isOpen ascending closedOk calendarOk inSpan sameMonth takenOr unlessLeft firstOpen found modified byConvention adjusted yearOf kept entriesIn orElse runOf opensOver calendarsOk adjustOverOf days
 worked-answers = refl
+
+-- ---- how far it moved, over a year's end
+worked-move : adjustOverMoveOf 96 (dayNumber 2025 12 31 ∷ []) house Following (dayNumber 2025 12 31) ≡ given (dayNumber 2026 1 5, pos 5)
+unfolding need then leap rowOf gone sumTo dayNumber guess yearsGone monthIn dayIn placeOf fieldsAt inBook withinSpan monthIndex step weeklyClosed member isOpen ascending closedOk calendarOk inSpan sameMonth takenOr unlessLeft firstOpen found modified byConvention adjusted yearOf kept entriesIn orElse runOf opensOver calendarsOk adjustOverOf adjustOverMoveOf movedFrom days
+worked-move = refl
 
 -- ---- the combined list in a lent list of so many places, which hold their own numbers from 1 on
 abbrev told : (desk house : List ℕ) (room : ℕ) → Answer ℕ

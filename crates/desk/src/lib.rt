@@ -1,16 +1,18 @@
 // A desk's closed dates over the house's: for each year the desk's if it has any there, otherwise the house's.
 ghost use mathlib.Core.Path.{_≡_};
 ghost use mathlib.Core.Bool.{true, _&&_};
-ghost use Rattle.date.specs.Date.{dated, numbered};
+ghost use Rattle.date.specs.Date.{numbered};
 ghost use Rattle.calendar.specs.Open.{closedOk};
 ghost use Rattle.calendar.specs.Calendar.{checked};
-ghost use Rattle.desk.specs.Desk.{inYears, askedOf, lookupOf, calendarsOk, adjustOverOf, Combines};
+ghost use Rattle.calendar.specs.Moves.{moved};
+ghost use Rattle.desk.specs.Desk.{inYears, askedOf, lookupOf, calendarsOk, adjustOverMoveOf, Combines};
 ghost use Rattle.desk.specs.Runs.{Tells, PlaceTold};
 use calendar::Checked;
 use calendar::Convention;
+use calendar::Moved;
 use calendar::closed_dates;
+use calendar::moves;
 use date::Date;
-use date::Dated;
 use date::Numbered;
 use date::in_book;
 
@@ -119,24 +121,27 @@ fn is_sound(mask: u8, desk: &[u32], house: &[u32]) -> bool
     keep_rules(desk, house)
 }
 
-// The adjusted date, each day that is tried open or closed by the run of its own year.
+// The adjusted date and the days that it moved, each day that is tried open or closed by the run of its own year.
 pub fn adjust<'a>(
     date: Date,
     convention: Convention,
     mask: u8,
     desk: &'a [u32],
     house: &'a [u32],
-) -> Dated
-    ensures { λ r. ⌜ dated r ≡ adjustOverOf mask (now (desk .entry)) (now (house .entry)) convention (date .day) ⌝ }
+) -> Moved
+    ensures { λ r. ⌜ moved r ≡ adjustOverMoveOf mask (now (desk .entry)) (now (house .entry)) convention (date .day) ⌝ }
 {
     let day = date.day;
     if !in_book(day) {
-        return Dated::Refused(refusal::BOOK);
+        return Moved::Refused(refusal::BOOK);
     }
     if !is_sound(mask, desk, house) {
-        return Dated::Refused(refusal::CALENDAR);
+        return Moved::Refused(refusal::CALENDAR);
     }
-    adjusting::by_convention(day, convention, mask, desk, house)
+    moves::to(
+        day,
+        adjusting::by_convention(day, convention, mask, desk, house),
+    )
 }
 
 // The combined list over the start of a lent list, and how many entries it has: 3 for either list, 23 where it has more than 4,096 entries, 14

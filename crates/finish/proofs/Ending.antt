@@ -21,7 +21,7 @@ use Rattle.steps.specs.declared.Built.{Built}
 use Rattle.steps.specs.Rules.{ruleInForce, tenorInForce}
 use Rattle.steps.specs.Finish.{Merged, meetAtEnd, mergeEndIf, mergeEnd, mergeFront, mergeFrontIf, meetAtFront}
 use Rattle.steps.specs.Build.{refusedBuilt, answered, over, datesAfter, flagsAfter}
-use Rattle.steps.specs.Entries.{Entries, Pairs, pairsOf, mergedEntries, withoutFormer, withoutSecond, leftBeside, paidOf, unadjustedAfter, Written}
+use Rattle.steps.specs.Entries.{Entries, Pairs, pairsOf, mergedEntries, withoutFormer, withoutSecond, leftBeside, farthest, paidOf, movedOf, unadjustedAfter, Written}
 use Rattle.steps.specs.Laws.Entries.{former-is, former-length}
 use Rattle.steps.specs.Laws.Entries as entries
 use Rattle.finish.specs.declared.merges.Start.{Start}
@@ -37,9 +37,9 @@ use Rattle.finish.specs.Laws.Lending.{written-refused, written-as, compl
 use Rattle.finish.specs.Finishing.{acceptedBuilt, pair, lentRefusal, completed}
 
 -- ---- writing out
-pub accepted-is : (q : Request) (count tries : ℕ) (rule : Rule) (tenor : Period) → rule ≡ ruleInForce q → tenor ≡ tenorInForce q → record { number = 0; count = count; tries = tries; rule = rule; tenor = tenor } ≡ acceptedBuilt q count tries
+pub accepted-is : (q : Request) (count tries moved : ℕ) (rule : Rule) (tenor : Period) → rule ≡ ruleInForce q → tenor ≡ tenorInForce q → record { number = 0; count = count; tries = tries; rule = rule; tenor = tenor; moved = moved } ≡ acceptedBuilt q count tries moved
 unfolding acceptedBuilt
-accepted-is q count tries rule tenor e f = rw (e, f)
+accepted-is q count tries moved rule tenor e f = rw (e, f)
 
 -- ---- both merges
 apart-alone : (ds : List ℕ) → length ds < 2 → meetAtFront ds ≡ false
@@ -259,14 +259,15 @@ module _ (q : Request) (closed : List ℕ) (seed tries : ℕ) (work marks : List
         let s : refused n ≡ mergeFront (mergeEnd paid₁ marks) = rw t at (m .says) in
         stopped n b (then-given _ _ (mergedEntries marks tries) _ both-dates (then-refused _ n _ (sym s))) h
 
-    pub written-out : (from to : ℕ) (b : Built) (work₂ dates′ flags′ unadjusted′ : List ℕ) → l ≡ left-is.Part from to → length paid₂ ≡ length paid₁ → length work₁ ≡ length paid₁ → work₂ ≡ followFront from (followEnd to work₁) → CopiedOut from to work₂ paid₂ marks₂ dates flags unadjusted dates′ flags′ unadjusted′ → b ≡ acceptedBuilt q (to - from) tries → Written q Out b dates flags unadjusted dates′ flags′ unadjusted′
-    unfolding leftOf mergedEntries paidOf then answered datesAfter flagsAfter unadjustedAfter acceptedBuilt
-    written-out from to b work₂ dates′ flags′ unadjusted′ t even beside follow c h =
+    pub written-out : (from to moved : ℕ) (b : Built) (work₂ dates′ flags′ unadjusted′ : List ℕ) → l ≡ left-is.Part from to → length paid₂ ≡ length paid₁ → length work₁ ≡ length paid₁ → work₂ ≡ followFront from (followEnd to work₁) → CopiedOut from to moved work₂ paid₂ marks₂ dates flags unadjusted dates′ flags′ unadjusted′ → b ≡ acceptedBuilt q (to - from) tries moved → Written q Out b dates flags unadjusted dates′ flags′ unadjusted′
+    unfolding leftOf mergedEntries paidOf movedOf then answered datesAfter flagsAfter unadjustedAfter acceptedBuilt
+    written-out from to moved b work₂ dates′ flags′ unadjusted′ t even beside follow c h =
         let n : Merges paid₁ marks (left-is.Part from to) paid₂ marks₂ = rw t at m in
         let s : given (partOf from to paid₂ marks₂) ≡ mergeFront (mergeEnd paid₁ marks) = n .says in
         let w = part-left paid₁ marks _ paid₂ marks₂ n from to refl in
         let count : to - from ≡ length (take (to - from) (drop from paid₂)) = sym (length-take-le (to - from) (drop from paid₂) (omega (arith, length-drop from paid₂, w .1))) in
         let third : take (to - from) (drop from work₂) ≡ leftBeside paid₁ work₁ = rw follow (followed paid₁ marks from to paid₂ marks₂ n even work₁ beside) in
+        let far : moved ≡ farthest (take (to - from) (drop from paid₂)) (leftBeside paid₁ work₁) = c .moved-then ∙ ap (farthest (take (to - from) (drop from paid₂))) third in
         let o : given (record { schedule = record { dates = partOf from to paid₂ marks₂ .dates; flags = partOf from to paid₂ marks₂ .flags; tries = tries }; unadjusted = leftBeside paid₁ work₁ }) ≡ then (pairsOf q closed seed work) (mergedEntries marks tries) = then-given _ _ (mergedEntries marks tries) _ both-dates (then-given _ _ _ _ (sym s) refl) in
         written-as q _ _ b dates flags unadjusted dates′ flags′ unadjusted′ (o ∙ finished)
-        (record { answer = rw count at h; dates-after = c .dates-then; flags-after = c .flags-then; unadjusted-after = rw third at (c .unadjusted-then) })
+        (record { answer = h ∙ (λ i. acceptedBuilt q (count i) tries (far i)); dates-after = c .dates-then; flags-after = c .flags-then; unadjusted-after = rw third at (c .unadjusted-then) })

@@ -3,3 +3,4 @@ pub mod Pays
 pub mod Merging
 pub mod Copying
 pub mod Ending
+pub mod Far

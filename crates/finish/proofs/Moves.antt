@@ -6,6 +6,7 @@ use mathlib.Core.List.{List, [], _∷_, _++_, append-nil}
 use Prim.Native.Nat.{ℕ, suc, _+_, _-_, _≤_, _<_}
 use native.Mathlib.Numerals.{add-one}
 use native.Mathlib.Omega.{arith}
+use lib.IntN.{ℤ}
 use lib.ListN.{length, getD, take, drop, set, length-set, drop-of-length-le, take-append-drop}
 use lib.Seq.{append-snoc, drop-cons, take-all, take-suc-set, drop-set-lt}
 use borrow.Author.Needs.{needs}
@@ -18,9 +19,16 @@ use Rattle.date.specs.declared.Dated.{Dated}
 use Rattle.date.specs.declared.Dated.the-variants as dated-is
 use Rattle.date.specs.Date.{dated}
 use Rattle.date.specs.Laws.Made.{given-day, refused-day}
+use Rattle.calendar.specs.declared.Convention.{Convention}
+use Rattle.calendar.specs.declared.Moved.{Moved}
+use Rattle.calendar.specs.declared.Moved.the-variants as moved-is
 use Rattle.calendar.specs.Open.{closedOk}
+use Rattle.calendar.specs.Adjust.{adjusted}
+use Rattle.calendar.specs.Moves as moves
+use Rattle.calendar.specs.Moves.{movedFrom, dateOf}
+use Rattle.calendar.specs.Laws.Moved.{given-date}
 use Rattle.steps.specs.declared.Move.{Move}
-use Rattle.steps.specs.declared.Move.the-variants.{ThirdWednesdays}
+use Rattle.steps.specs.declared.Move.the-variants.{ThirdWednesdays, Adjust}
 use Rattle.steps.specs.declared.Rule.{Rule}
 use Rattle.steps.specs.declared.Rule.the-variants.{ThirdWednesday, ThirdWednesdayInclusive}
 use Rattle.steps.specs.Rules.{rules, ruleNumber, oneOf}
@@ -132,7 +140,20 @@ module _ {mask : ℕ} {closed : List ℕ} {what : Move} {src dst₀ dst : List �
           same = λ ok. sym (rest-moved (moved mask closed what) src dst i h src (d .day) (omega arith) refl (given-day r d _ (p ok) e)) ∙ u .same ok;
         }
 
-pub ruleset besides = (beside-none, beside-whole, beside-refused, beside-moved, needs)
+-- so where the adjustment is asked, which answers the days too
+taken : (base : ℕ) (x : Answer ℕ) (m : Moved) (d : Dated) → moves.moved m ≡ movedFrom (given base) x → dateOf (moves.moved m) ≡ dated d → dated d ≡ x
+taken base x m d h e = sym e ∙ ap dateOf h ∙ given-date base x
+
+module _ {mask : ℕ} {closed : List ℕ} {convention : Convention} {src dst₀ dst : List ℕ} {i : ℕ} (u : Beside mask closed (Adjust convention) src dst₀ dst i) (even : length src ≡ length dst₀) (h : i < length src) (m : Moved) (p : closedOk closed ≡ true → moves.moved m ≡ movedFrom (given (getD src i 0)) (adjusted mask closed convention (getD src i 0))) where
+  pub adjust-refused : (n : ℕ) → m ≡ moved-is.Refused n → closedOk closed ≡ true → done (Refused n) dst ≡ each (moved mask closed (Adjust convention)) src
+  unfolding moved moves.moved dateOf dated
+  adjust-refused n e ok = beside-refused u even h (dated-is.Refused n) (λ k. taken _ _ m (dated-is.Refused n) (p k) (rw e refl)) n refl ok
+
+  pub adjust-moved : (d : Date) (days : ℤ) → m ≡ moved-is.Day d days → Beside mask closed (Adjust convention) src dst₀ (set dst i (d .day)) (i + 1)
+  unfolding moved moves.moved dateOf dated
+  adjust-moved d days e = beside-moved u even h (dated-is.Day d) (λ k. taken _ _ m (dated-is.Day d) (p k) (rw e refl)) d refl
+
+pub ruleset besides = (beside-none, beside-whole, beside-refused, beside-moved, adjust-refused, adjust-moved, needs)
 
 -- ---- a part
 pub part-moved : {P : Type 0} (ok : P) (f : ℕ → Answer ℕ) (a b : ℕ) (s ys : List ℕ) (r : Done) → a ≤ b → (P → done r ys ≡ each f (take (b - a) (drop a s))) → done r (putMid a (b - a) s ys) ≡ between f a b s

@@ -7,6 +7,7 @@ use lib.ListN.{length, take, drop}
 use Rattle.refusal.specs.Answer.{Answer, given, refused}
 use Rattle.steps.specs.Finish.{Merged, mergeEnd, mergeFront}
 use Rattle.steps.specs.Build.{over}
+use Rattle.steps.specs.Entries.{farthest}
 use Rattle.finish.specs.declared.merges.Start.{Start}
 use Rattle.finish.specs.declared.merges.Start.the-variants.{At, Refused}
 use Rattle.finish.specs.declared.merges.Left.{Left}
@@ -57,7 +58,8 @@ pub record Merges (ds fs : List ℕ) (r : Left) (ds′ fs′ : List ℕ) : Type 
   pub up-to : UpTo r (length (mergeEnd ds fs .dates))
 
 -- the part from a place up to another, copied to the start of what was lent
-pub record CopiedOut (from to : ℕ) (work paid marks dates flags unadjusted dates′ flags′ unadjusted′ : List ℕ) : Type 0 where
+pub record CopiedOut (from to moved : ℕ) (work paid marks dates flags unadjusted dates′ flags′ unadjusted′ : List ℕ) : Type 0 where
   pub dates-then : dates′ ≡ over (partOf from to paid marks .dates) dates
   pub flags-then : flags′ ≡ over (partOf from to paid marks .flags) flags
   pub unadjusted-then : unadjusted′ ≡ over (take (to - from) (drop from work)) unadjusted
+  pub moved-then : moved ≡ farthest (partOf from to paid marks .dates) (take (to - from) (drop from work))

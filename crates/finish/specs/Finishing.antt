@@ -27,9 +27,9 @@ abbrev pub pair : List ℕ → List ℕ → Merged
 pair ds fs = record { dates = ds; flags = fs }
 
 -- ---- the answer's record
-unfoldable pub acceptedBuilt : Request → ℕ → ℕ → Built
-acceptedBuilt q count tries =
-    record { number = 0; count = count; tries = tries; rule = ruleInForce q; tenor = tenorInForce q }
+unfoldable pub acceptedBuilt : Request → (count tries moved : ℕ) → Built
+acceptedBuilt q count tries moved =
+    record { number = 0; count = count; tries = tries; rule = ruleInForce q; tenor = tenorInForce q; moved = moved }
 
 -- ---- the last steps on any lists: 1 where they do not belong together, 14 where the dates do not fit
 unfoldable pub lentRefusal : (work paid marks dates flags unadjusted : ℕ) → ℕ

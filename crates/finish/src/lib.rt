@@ -38,8 +38,8 @@ pub struct Made {
     pub paid: Paid,
 }
 
-fn accepted(q: Request, count: u32, tries: u32) -> Built
-    ensures { λ r. ⌜ r ≡ acceptedBuilt q count tries ⌝ }
+fn accepted(q: Request, count: u32, tries: u32, moved: u32) -> Built
+    ensures { λ r. ⌜ r ≡ acceptedBuilt q count tries moved ⌝ }
 {
     Built {
         number: 0,
@@ -47,10 +47,12 @@ fn accepted(q: Request, count: u32, tries: u32) -> Built
         tries,
         rule: rules::rule_in_force(q),
         tenor: rules::tenor_in_force(q),
+        moved,
     }
 }
 
-// The schedule written out: the paid dates from a place up to another, the flags between them, and the dates as generated.
+// The schedule written out: the paid dates from a place up to another, the flags between them, and the dates as generated. Answered is
+// how far apart the two dates of an entry are at most.
 fn copy_out(
     from: usize,
     to: usize,
@@ -60,15 +62,16 @@ fn copy_out(
     dates: &mut [u32],
     flags: &mut [u8],
     unadjusted: &mut [u32],
-)
+) -> u32
     requires { ⌜ Lent (now work) (now paid) (now marks) (now dates) (now flags) (now unadjusted) ⌝ }
     requires { ⌜ (from < to) × (to ≤ length (now work)) ⌝ }
-    ensures { λ _. ⌜ CopiedOut from to (now (work .entry)) (now (paid .entry)) (now (marks .entry)) (now (dates .entry)) (now (flags .entry)) (now (unadjusted .entry)) (now (dates .exit)) (now (flags .exit)) (now (unadjusted .exit)) ⌝ }
+    ensures { λ r. ⌜ CopiedOut from to r (now (work .entry)) (now (paid .entry)) (now (marks .entry)) (now (dates .entry)) (now (flags .entry)) (now (unadjusted .entry)) (now (dates .exit)) (now (flags .exit)) (now (unadjusted .exit)) ⌝ }
 {
     let last = to - 1;
     copies::copy_dates(&paid[from..to], dates);
     copies::copy_flags(&marks[from..last], flags);
     copies::copy_dates(&work[from..to], unadjusted);
+    copies::farthest(&paid[from..to], &work[from..to])
 }
 
 // 1 where the lists do not belong together, 14 where the dates do not fit, else 0.
@@ -142,9 +145,9 @@ pub fn complete(
         Left::Refused(n) => refused(n),
         Left::Part { from, to } => {
             merges::follow(work, from, to);
-            copy_out(from, to, work, paid, marks, dates, flags, unadjusted);
+            let moved = copy_out(from, to, work, paid, marks, dates, flags, unadjusted);
             let count = to - from;
-            accepted(q, count as u32, made.tries)
+            accepted(q, count as u32, made.tries, moved)
         }
     }
 }

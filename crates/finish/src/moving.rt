@@ -3,10 +3,15 @@ ghost use mathlib.Core.Path.{_≡_};
 ghost use mathlib.Core.Bool.{true};
 ghost use Prim.Native.Nat.{_≤_};
 ghost use lib.ListN.{length};
+ghost use Rattle.date.specs.Date.{dated};
 ghost use Rattle.calendar.specs.Open.{closedOk};
+ghost use Rattle.steps.specs.declared.Move.the-variants.{Adjust};
 ghost use Rattle.steps.specs.Finish.{moved, each, between};
 ghost use Rattle.finish.specs.Moving.{done};
 ghost use Rattle.finish.specs.Paying.{payBetween};
+use calendar::Convention;
+use calendar::Moved;
+use calendar::search;
 use date::Dated;
 use steps::Move;
 use steps::moves;
@@ -16,12 +21,22 @@ pub(crate) enum Done {
     Refused(u8),
 }
 
+// A third Wednesday is asked for by itself, so that the compiler expands it in the loop, as it does not expand all that a date may become.
+fn moved(day: u32, what: Move, mask: u8, closed: &[u32]) -> Dated
+    ensures { λ r. ⌜ (closedOk (now (closed .entry)) ≡ true → dated r ≡ moved mask (now (closed .entry)) what day) ⌝ }
+{
+    match what {
+        Move::ThirdWednesdays => moves::third_wednesday(day),
+        _ => moves::moved(day, what, mask, closed),
+    }
+}
+
 pub(crate) fn move_all(s: &mut [u32], what: Move, mask: u8, closed: &[u32]) -> Done
     ensures { λ r. ⌜ (closedOk (now (closed .entry)) ≡ true → done r (now (s .exit)) ≡ each (moved mask (now (closed .entry)) what) (now (s .entry))) ⌝ }
 {
     let mut i = 0;
     while i < s.len() {
-        let next = moves::moved(s[i], what, mask, closed);
+        let next = moved(s[i], what, mask, closed);
         match next {
             Dated::Refused(n) => {
                 return Done::Refused(n);
@@ -50,7 +65,7 @@ pub(crate) fn move_between(
     move_all(&mut s[a..b], what, mask, closed)
 }
 
-// The dates of one list moved into another.
+// The dates of one list moved into another one by one, each by a look at what moves it.
 fn pay_all(work: &[u32], paid: &mut [u32], what: Move, mask: u8, closed: &[u32]) -> Done
     requires { ⌜ length (now work) ≡ length (now paid) ⌝ }
     ensures { λ r. ⌜ (closedOk (now (closed .entry)) ≡ true → done r (now (paid .exit)) ≡ each (moved mask (now (closed .entry)) what) (now (work .entry))) ⌝ }
@@ -71,6 +86,44 @@ fn pay_all(work: &[u32], paid: &mut [u32], what: Move, mask: u8, closed: &[u32])
     Done::Whole
 }
 
+// The dates of one list adjusted into another: what becomes of most dates, asked of the adjustment itself.
+fn adjust_all(
+    work: &[u32],
+    paid: &mut [u32],
+    convention: Convention,
+    mask: u8,
+    closed: &[u32],
+) -> Done
+    requires { ⌜ length (now work) ≡ length (now paid) ⌝ }
+    ensures { λ r. ⌜ (closedOk (now (closed .entry)) ≡ true → done r (now (paid .exit)) ≡ each (moved mask (now (closed .entry)) (Adjust convention)) (now (work .entry))) ⌝ }
+{
+    let mut i = 0;
+    while i < work.len() {
+        let next = search::adjust(work[i], convention, mask, closed);
+        match next {
+            Moved::Refused(n) => {
+                return Done::Refused(n);
+            }
+            Moved::Day { date, days } => {
+                paid[i] = date.day;
+                i += 1;
+            }
+        }
+    }
+    Done::Whole
+}
+
+// The dates of one list moved into another.
+fn pay_part(work: &[u32], paid: &mut [u32], what: Move, mask: u8, closed: &[u32]) -> Done
+    requires { ⌜ length (now work) ≡ length (now paid) ⌝ }
+    ensures { λ r. ⌜ (closedOk (now (closed .entry)) ≡ true → done r (now (paid .exit)) ≡ each (moved mask (now (closed .entry)) what) (now (work .entry))) ⌝ }
+{
+    match what {
+        Move::Adjust(convention) => adjust_all(work, paid, convention, mask, closed),
+        _ => pay_all(work, paid, what, mask, closed),
+    }
+}
+
 // The dates from place a up to place b moved into the same places of another list.
 pub(crate) fn pay_between(
     work: &[u32],
@@ -84,5 +137,5 @@ pub(crate) fn pay_between(
     requires { ⌜ (a ≤ b) × (b ≤ length (now work)) × (length (now work) ≡ length (now paid)) ⌝ }
     ensures { λ r. ⌜ (closedOk (now (closed .entry)) ≡ true → done r (now (paid .exit)) ≡ payBetween (moved mask (now (closed .entry)) what) a b (now (work .entry)) (now (paid .entry))) ⌝ }
 {
-    pay_all(&work[a..b], &mut paid[a..b], what, mask, closed)
+    pay_part(&work[a..b], &mut paid[a..b], what, mask, closed)
 }

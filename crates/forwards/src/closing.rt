@@ -5,6 +5,7 @@ ghost use Rattle.steps.specs.Generate.{putClosing, closing, forwardEnd};
 ghost use Rattle.working.specs.Part.{working, Part, Begun, held, Fills};
 ghost use Rattle.working.specs.Turning.{Looped};
 ghost use Rattle.working.specs.Making.{Makes};
+use calendar::moves;
 use calendar::search;
 use date::Dated;
 use steps::Request;
@@ -48,11 +49,11 @@ fn close(
 {
     let terminal = q.terminal;
     let newest = lists::newest(false, n, work);
-    let a = match search::adjust(newest, terminal, q.mask, closed) {
+    let a = match moves::date_of(search::adjust(newest, terminal, q.mask, closed)) {
         Dated::Refused(k) => return Filled::Refused(k),
         Dated::Day(a) => a,
     };
-    let b = match search::adjust(q.termination.day, terminal, q.mask, closed) {
+    let b = match moves::date_of(search::adjust(q.termination.day, terminal, q.mask, closed)) {
         Dated::Refused(k) => return Filled::Refused(k),
         Dated::Day(b) => b,
     };

@@ -3,6 +3,7 @@ ghost use mathlib.Core.Bool.{true, false};
 ghost use Rattle.refusal.specs.Answer.{then};
 ghost use Rattle.steps.specs.Generate.{put, putEarlier, creditOpening, opening};
 ghost use Rattle.working.specs.Part.{working, Part, Fresh, Fills};
+use calendar::moves;
 use calendar::search;
 use date::Dated;
 use date::span;
@@ -36,7 +37,7 @@ fn open_credit(
     ensures { λ r. ⌜ Fills (Fresh (now (closed .entry)) room) false room (λ _. creditOpening q (now (closed .entry)) room day) 0 (working (now (work .entry)) (now (marks .entry))) r (working (now (work .exit)) (now (marks .exit))) ⌝ }
 {
     let convention = q.convention;
-    let moved = match search::adjust(day, convention, q.mask, closed) {
+    let moved = match moves::date_of(search::adjust(day, convention, q.mask, closed)) {
         Dated::Refused(k) => return Filled::Refused(k),
         Dated::Day(d) => d,
     };

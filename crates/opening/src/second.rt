@@ -10,6 +10,7 @@ ghost use Rattle.working.specs.Part.{working, Part, Placed, Begun};
 ghost use Rattle.opening.specs.Opening.{Opens};
 use crate::Opening;
 use calendar::advances;
+use calendar::moves;
 use date::Dated;
 use period::sign;
 use steps::Request;
@@ -143,7 +144,7 @@ fn tenor_on(q: Request, closed: &[u32], day: u32) -> Dated
     let unit = tenor.unit;
     let convention = q.convention;
     let size = sign::size(tenor.length);
-    advances::advance(
+    moves::date_of(advances::advance(
         day,
         false,
         size,
@@ -152,7 +153,7 @@ fn tenor_on(q: Request, closed: &[u32], day: u32) -> Dated
         q.monthend,
         q.mask,
         closed,
-    )
+    ))
 }
 
 pub(crate) fn put_second(

@@ -7,3 +7,4 @@ pub mod Refusals
 pub mod Uneven
 pub mod RustStep
 pub mod Closed
+pub mod HowFar

@@ -94,6 +94,7 @@ pub record SameButRule (r r′ : Built) : Type 0 where
   pub count : r .count ≡ r′ .count
   pub tries : r .tries ≡ r′ .tries
   pub tenor : r .tenor ≡ r′ .tenor
+  pub moved : r .moved ≡ r′ .moved
 
 abbrev pub AgreeInMemory : (Request → Type 0) → Type 0
 AgreeInMemory Day =
@@ -104,7 +105,7 @@ AgreeInMemory Day =
 
 -- the dates stand at the start of two lists, their flags at the start of the other; later places hold what they held
 pub record EvenlyWritten (q : Request) (k : ℕ) (rule : Rule) (r : Built) (dates flags unadjusted dates′ flags′ unadjusted′ : List ℕ) : Type 0 where
-  pub answer : r ≡ record { number = 0; count = k + 1; tries = k + 1; rule = rule; tenor = q .tenor }
+  pub answer : r ≡ record { number = 0; count = k + 1; tries = k + 1; rule = rule; tenor = q .tenor; moved = 0 }
   pub its-dates : List ℕ
   pub even : EvenDates q k its-dates
   pub dates-then : dates′ ≡ its-dates ++ drop (k + 1) dates

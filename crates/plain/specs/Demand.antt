@@ -152,6 +152,7 @@ pub record WrittenOut (q : Request) (ds : List ℕ) (m : ℕ) (r : Built) (dates
   pub tries : r .tries ≡ 1 + m / tenorCount q
   pub rule : r .rule ≡ Backward
   pub tenor : r .tenor ≡ q .tenor
+  pub moved : r .moved ≡ 0
   -- the dates stand at the start of two lists, their flags at the start of the other; later places hold what they held
   pub dates-then : dates′ ≡ ds ++ drop (length ds) dates
   pub its-flags : List ℕ
@@ -163,6 +164,7 @@ pub record LeftAlone (r : Built) (dates flags unadjusted dates′ flags′ unadj
   pub number : r .number ≡ ROOM
   pub count : r .count ≡ 0
   pub tries : r .tries ≡ 0
+  pub moved : r .moved ≡ 0
   pub dates-same : dates′ ≡ dates
   pub flags-same : flags′ ≡ flags
   pub unadjusted-same : unadjusted′ ≡ unadjusted

@@ -139,7 +139,7 @@ ChecksOn =
 
 -- ---- the same in memory (shown in Memory)
 pub record WrittenOn (q : Request) (ds : List ℕ) (m : ℕ) (r : Built) (dates flags unadjusted dates′ flags′ unadjusted′ : List ℕ) : Type 0 where
-  pub answer : r ≡ record { number = 0; count = length ds; tries = 1 + m / tenorCount q; rule = Forward; tenor = q .tenor }
+  pub answer : r ≡ record { number = 0; count = length ds; tries = 1 + m / tenorCount q; rule = Forward; tenor = q .tenor; moved = 0 }
   -- the dates stand at the start of two lists, their flags at the start of the other; later places hold what they held
   pub dates-then : dates′ ≡ ds ++ drop (length ds) dates
   pub its-flags : List ℕ

@@ -145,6 +145,6 @@ unfolding ruleNumber oneOf isZero isBackward daysFrom asked builds need then lea
 points = refl
 
 -- length 0 forces Zero, and the tenor in force is 0 years
-in-force : answered (asked Backward Unadjusted Unadjusted false (on 1 15) (on 3 20) 0 Months 0 0 0) (builds [] (asked Backward Unadjusted Unadjusted false (on 1 15) (on 3 20) 0 Months 0 0 0)) ≡ record { number = 0; count = 2; tries = 0; rule = Zero; tenor = record { length = pos 0; unit = Years } }
+in-force : answered (asked Backward Unadjusted Unadjusted false (on 1 15) (on 3 20) 0 Months 0 0 0) 0 (builds [] (asked Backward Unadjusted Unadjusted false (on 1 15) (on 3 20) 0 Months 0 0 0)) ≡ record { number = 0; count = 2; tries = 0; rule = Zero; tenor = record { length = pos 0; unit = Years }; moved = 0 }
 unfolding ruleNumber oneOf isZero isBackward asked builds need then leap rowOf monthLength gone sumTo dayNumber guess yearsGone monthIn dayIn placeOf fieldsAt weekdayOf daysUntil inBook withinSpan makeOf lastOfMonth monthIndex inMonth step shiftDays shiftMonths shifted nthWeekdayOf weeklyClosed member isOpen ascending closedOk calendarOk inSpan takenOr any.firstOpen any.found sameMonth unlessLeft any.modified any.byConvention any.adjusted any.lastOpen any.atMonthEnd towards any.openSteps any.endAsked any.landed any.addMonths any.addWeeks any.byUnit any.advanced longest tenorOk mainMonth inCycle isImm onTwentieths inImmMonths isCredit isOldCDS ruleUnder isNone ruleInForce tenorUnder tenorInForce paceBy paceOf numberOr firstRow isGiven anchorOk datesOk byRange byImm outOfRange notImm wrongRule firstOutside lastOutside monthendAllowed inDays shortEnd anchorRows firstRows lastRows rowsUnder inputRows twentiethOf movedIf skipOf toImmMonth nextTwentieth previousTwentieth lastDay seedOf candidateBy candidate isPast unlessSame unlessPast turnOf hasRoom put putUnless putNew onTurn lastTry walk candidates anchorOr putAnchor zeroDates putPenultimate begun ended backwardEnd backwardFrom backward putEarlier creditOpening openingBy opening tenorOn putSeed putFirst farEnough isNear comingTwentieth putComing putTwentieth second closingDay putClosing closing opened shut forwardEnd forwardFrom forward generateBy generate thirdWednesday moved each between onFirst onLast onMiddle wednesdaysBy wednesdays unless firstMove lastMove monthEndMove middleMove seedAsked seedAtEnd adjustments meetAtEnd mergeEndIf mergeEnd meetAtFront mergeFrontIf mergeFront finish stepsOf admitted buildOf answered
 in-force = refl

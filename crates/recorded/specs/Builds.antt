@@ -12,13 +12,13 @@ use Rattle.steps.specs.declared.Request.{Request}
 use Rattle.steps.specs.declared.Built.{Built}
 use Rattle.steps.specs.Rules.{ruleNumber}
 use Rattle.steps.specs.Build.{refusedBuilt, answered, over, datesAfter, flagsAfter}
-use Rattle.steps.specs.Entries.{Entries, entriesOf, paidOf, unadjustedAfter}
+use Rattle.steps.specs.Entries.{Entries, entriesOf, paidOf, movedOf, unadjustedAfter}
 use Rattle.crossing.specs.Answers.{oneNumber}
 use Rattle.crossing.specs.Numbers.{unitNumber}
 
 -- ---- a build: a list that is too short for the record is 14, before all else, then comes the request's own refusal
 abbrev pub fitsRecord : List ℕ → Bool
-fitsRecord answer = leb 6 (length answer)
+fitsRecord answer = leb 7 (length answer)
 
 unfoldable pub outcome : Answer Request → (closed dates flags unadjusted answer : List ℕ) → Answer Entries
 outcome q closed dates flags unadjusted answer =
@@ -27,17 +27,17 @@ outcome q closed dates flags unadjusted answer =
 unfoldable pub howMany : Entries → ℕ
 howMany e = length (e .schedule .dates)
 
--- ---- the record: number, count, tries, rule in force, size and unit of the tenor in force
+-- ---- the record: number, count, tries, rule in force, size and unit of the tenor in force, and how far the dates moved at most
 unfoldable pub recordOf : Answer Request → Answer Entries → Built
-recordOf (given q) o = answered q (paidOf o)
+recordOf (given q) o = answered q (movedOf o) (paidOf o)
 recordOf (refused n) o = refusedBuilt n
 
-unfoldable pub sixNumbers : Built → List ℕ
-sixNumbers b =
-    b .number ∷ b .count ∷ b .tries ∷ ruleNumber (b .rule) ∷ natAbs (b .tenor .length) ∷ unitNumber (b .tenor .unit) ∷ []
+unfoldable pub recordNumbers : Built → List ℕ
+recordNumbers b =
+    b .number ∷ b .count ∷ b .tries ∷ ruleNumber (b .rule) ∷ natAbs (b .tenor .length) ∷ unitNumber (b .tenor .unit) ∷ b .moved ∷ []
 
 unfoldable pub recorded : Bool → Built → List ℕ → List ℕ
-recorded true b old = over (sixNumbers b) old
+recorded true b old = over (recordNumbers b) old
 recorded false b old = old
 
 -- what the code answers of a record

@@ -1,5 +1,5 @@
-// A build and its record in six numbers: the refusal's number or 0, the count of dates, the tries, the rule in force, and the
-// size and the unit of the tenor in force.
+// A build and its record in seven numbers: the refusal's number or 0, the count of dates, the tries, the rule in force, the size and the
+// unit of the tenor in force, and how far the dates moved at most.
 ghost use mathlib.Core.Path.{_≡_};
 ghost use Prim.Native.Nat.{_≤_};
 ghost use lib.ListN.{length};
@@ -7,7 +7,7 @@ ghost use Rattle.steps.specs.Build.{over};
 ghost use Rattle.crossing.specs.Requests.{asked};
 ghost use Rattle.request.specs.Format.{decoded};
 ghost use Rattle.recorded.specs.Bytes.{requestIn, closedIn};
-ghost use Rattle.recorded.specs.Builds.{sixNumbers, countIn, Reported};
+ghost use Rattle.recorded.specs.Builds.{recordNumbers, countIn, Reported};
 use crossing::answers;
 use crossing::requests::FromNumbers;
 use period::sign;
@@ -16,8 +16,8 @@ use steps::Built;
 use steps::rules;
 
 fn put_record(b: Built, answer: &mut [u32])
-    requires { ⌜ 6 ≤ length (now answer) ⌝ }
-    ensures { λ _. ⌜ now (answer .exit) ≡ over (sixNumbers b) (now (answer .entry)) ⌝ }
+    requires { ⌜ 7 ≤ length (now answer) ⌝ }
+    ensures { λ _. ⌜ now (answer .exit) ≡ over (recordNumbers b) (now (answer .entry)) ⌝ }
 {
     answer[0] = b.number as u32;
     answer[1] = b.count;
@@ -28,6 +28,7 @@ fn put_record(b: Built, answer: &mut [u32])
     answer[4] = sign::size(tenor.length);
     let unit = tenor.unit;
     answer[5] = crossing::unit_number(unit);
+    answer[6] = b.moved;
 }
 
 fn count_in(b: Built) -> i64
@@ -40,8 +41,8 @@ fn count_in(b: Built) -> i64
 }
 
 fn report(b: Built, answer: &mut [u32]) -> i64
-    requires { ⌜ 6 ≤ length (now answer) ⌝ }
-    ensures { λ r. ⌜ (r ≡ countIn b) × (now (answer .exit) ≡ over (sixNumbers b) (now (answer .entry))) ⌝ }
+    requires { ⌜ 7 ≤ length (now answer) ⌝ }
+    ensures { λ r. ⌜ (r ≡ countIn b) × (now (answer .exit) ≡ over (recordNumbers b) (now (answer .entry))) ⌝ }
 {
     put_record(b, answer);
     count_in(b)
@@ -58,7 +59,7 @@ pub fn build(
 ) -> i64
     ensures { λ r. ⌜ Reported (asked request) (now (closed .entry)) r (now (dates .entry)) (now (flags .entry)) (now (unadjusted .entry)) (now (answer .entry)) (now (dates .exit)) (now (flags .exit)) (now (unadjusted .exit)) (now (answer .exit)) ⌝ }
 {
-    if answer.len() < 6 {
+    if answer.len() < 7 {
         return answers::minus(refusal::ROOM);
     }
     match request {

@@ -59,12 +59,12 @@ fn one_fewer(n: u32) -> u32 {
     if n == 0 { 0 } else { n - 1 }
 }
 
-// A build agrees if its record, its paid dates and its flags do: the Rust has no unadjusted dates.
+// A build agrees if the first six numbers of its record, its paid dates and its flags do: the Rust has no unadjusted dates.
 fn build_agrees(words: &[u32], at: u32, closed: &[u32], told: u32) -> bool {
     let mut dates = [0u32; 4096];
     let mut flags = [0u8; 4096];
     let mut unadjusted = [0u32; 4096];
-    let mut answer = [0u32; 6];
+    let mut answer = [0u32; 7];
     ask_build(
         words,
         at,

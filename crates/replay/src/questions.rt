@@ -71,9 +71,16 @@ fn of_dates(words: &[u32], at: u32) -> i64 {
 
 fn of_calendars(words: &[u32], at: u32, closed: &[u32]) -> i64 {
     let day = field(words, at, 2);
+    let mut moved = [0i32; 1];
     match field(words, at, 1) {
-        11 => heronspan_adjust(day, small(words, at, 3), small(words, at, 4), closed),
-        12 => heronspan_calendar_month_end(day, small(words, at, 3), closed),
+        11 => heronspan_adjust(
+            day,
+            small(words, at, 3),
+            small(words, at, 4),
+            closed,
+            &mut moved,
+        ),
+        12 => heronspan_calendar_month_end(day, small(words, at, 3), closed, &mut moved),
         13 => heronspan_is_month_end(day, small(words, at, 3), closed),
         _ => heronspan_calendar_advance(
             day,
@@ -83,6 +90,7 @@ fn of_calendars(words: &[u32], at: u32, closed: &[u32]) -> i64 {
             small(words, at, 7),
             small(words, at, 8),
             closed,
+            &mut moved,
         ),
     }
 }

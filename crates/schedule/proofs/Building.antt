@@ -18,7 +18,7 @@ use Rattle.steps.specs.Table.{firstRow, inputRows}
 use Rattle.steps.specs.Laws.Table.{accepted}
 use Rattle.steps.specs.Generate.{zeroDates, backward, forward, generateBy, generate}
 use Rattle.steps.specs.Build.{refusedBuilt, admitted, answered, datesAfter, flagsAfter}
-use Rattle.steps.specs.Entries.{Entries, pairsOf, mergedEntries, entriesOfMade, entrySteps, entriesOf, paidOf, unadjustedAfter, Written}
+use Rattle.steps.specs.Entries.{Entries, pairsOf, mergedEntries, entriesOfMade, entrySteps, entriesOf, paidOf, movedOf, unadjustedAfter, Written}
 use Rattle.working.specs.declared.Piece.{Piece}
 use Rattle.working.specs.declared.Generated.{Generated}
 use Rattle.working.specs.declared.Generated.the-variants as generated-is
@@ -71,7 +71,7 @@ module _ (l : List ℕ) (at n end : ℕ) (size : length l ≡ 4096) (e : end ≡
 
 -- ---- refusals, and what was generated
 pub refusal-written : (q : Request) (o : Answer Entries) (k : ℕ) (r : Built) (dates flags unadjusted : List ℕ) → r ≡ refusedBuilt k → refused k ≡ o → Written q o r dates flags unadjusted dates flags unadjusted
-unfolding paidOf then answered datesAfter flagsAfter unadjustedAfter
+unfolding paidOf movedOf then answered datesAfter flagsAfter unadjustedAfter
 refusal-written q o k r dates flags unadjusted b e = rw (← e) (record { answer = b; dates-after = refl; flags-after = refl; unadjusted-after = refl })
 
 module _ (A : ℕ → Answer ℕ) (q : Request) (closed : List ℕ) (lent : ℕ) {room : ℕ} (g : Generated) (w : Work) (paid : List ℕ) (p : Generates A room (generate q closed room) g w paid) (least : room ≡ min lent 4096) where

@@ -93,5 +93,5 @@ unfolding anchorOr isGiven
 anchor-some anchor other e = simp (ne-eqb anchor 0 e)
 
 -- ---- the record of a refusal
-pub refused-is : (n : ℕ) → record { number = n; count = 0; tries = 0; rule = Zero; tenor = record { length = pos 0; unit = Days } } ≡ refusedBuilt n
+pub refused-is : (n : ℕ) → record { number = n; count = 0; tries = 0; rule = Zero; tenor = record { length = pos 0; unit = Days }; moved = 0 } ≡ refusedBuilt n
 refused-is n = refl

@@ -36,12 +36,13 @@ buildOf q closed dates flags = admitted (firstRow (inputRows q closed dates flag
 
 -- ---- what is answered, and what the lent lists hold
 abbrev pub refusedBuilt : ℕ → Built
-refusedBuilt n = record { number = n; count = 0; tries = 0; rule = Zero; tenor = record { length = pos 0; unit = Days } }
+refusedBuilt n = record { number = n; count = 0; tries = 0; rule = Zero; tenor = record { length = pos 0; unit = Days }; moved = 0 }
 
-unfoldable pub answered : Request → Answer Schedule → Built
-answered q (refused n) = refusedBuilt n
-answered q (given s) =
-    record { number = 0; count = length (s .dates); tries = s .tries; rule = ruleInForce q; tenor = tenorInForce q }
+-- `moved`, how far the dates of a schedule moved, is defined in `Entries`
+unfoldable pub answered : Request → (moved : ℕ) → Answer Schedule → Built
+answered q moved (refused n) = refusedBuilt n
+answered q moved (given s) =
+    record { number = 0; count = length (s .dates); tries = s .tries; rule = ruleInForce q; tenor = tenorInForce q; moved = moved }
 
 -- a list laid over the start of another: later places keep what they held
 unfoldable pub over : List ℕ → List ℕ → List ℕ

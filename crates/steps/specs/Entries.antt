@@ -1,10 +1,10 @@
 -- Request L7: each entry of a schedule keeps two dates, the paid one and the one before adjustment, which is the date after the
--- third-Wednesday step. The paid dates, the flags and the tries are those of `Build`.
+-- third-Wednesday step. The paid dates, the flags and the tries are those of `Build`. Request L8: how far apart the two dates are at most.
 -- Assumes nothing.
-use Prim.Native.Nat.{ℕ, _-_, min}
+use Prim.Native.Nat.{ℕ, _+_, _-_, min, max}
 use mathlib.Core.Path.{_≡_}
 use mathlib.Core.Bool.{Bool, true, false}
-use mathlib.Core.List.{List, _++_}
+use mathlib.Core.List.{List, [], _∷_, _++_}
 use lib.Dec.{eqb}
 use lib.ListN.{length, take, drop}
 use Rattle.refusal.specs.Answer.{Answer, given, refused, need, then, UNEVEN}
@@ -67,6 +67,19 @@ entriesOf q closed dates flags unadjusted =
     need UNEVEN (eqb dates unadjusted)
     (admitted (firstRow (inputRows q closed dates flags)) (entrySteps q closed) dates)
 
+-- ---- how far apart two days are; the greatest of that over the entries of a schedule; and the number of a build, 0 in a refusal
+unfoldable pub apart : (a b : ℕ) → ℕ
+apart a b = (a - b) + (b - a)
+
+unfoldable pub farthest : (paid unadjusted : List ℕ) → ℕ
+farthest [] gs = 0
+farthest (p ∷ ps) [] = 0
+farthest (p ∷ ps) (g ∷ gs) = max (apart p g) (farthest ps gs)
+
+unfoldable pub movedOf : Answer Entries → ℕ
+movedOf (refused n) = 0
+movedOf (given e) = farthest (e .schedule .dates) (e .unadjusted)
+
 -- ---- what is answered, and what the three lent lists hold
 -- without the third list
 unfoldable pub paidOf : Answer Entries → Answer Schedule
@@ -78,7 +91,7 @@ unadjustedAfter (given e) old = over (e .unadjusted) old
 
 -- the promise of a build
 pub record Written (q : Request) (o : Answer Entries) (r : Built) (dates flags unadjusted dates′ flags′ unadjusted′ : List ℕ) : Type 0 where
-  pub answer : r ≡ answered q (paidOf o)
+  pub answer : r ≡ answered q (movedOf o) (paidOf o)
   pub dates-after : dates′ ≡ datesAfter (paidOf o) dates
   pub flags-after : flags′ ≡ flagsAfter (paidOf o) flags
   pub unadjusted-after : unadjusted′ ≡ unadjustedAfter o unadjusted

@@ -7,4 +7,5 @@ pub mod Counts
 pub mod Tries
 pub mod Grows
 pub mod Entries
+pub mod Farthest
 pub mod ShortEnd

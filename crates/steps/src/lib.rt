@@ -78,13 +78,15 @@ pub enum Move {
     OpenMonthEnds,
 }
 
-// What a build answers: in a refusal the number, rule Zero, tenor 0 days, and 0 in all else.
+// What a build answers: in a refusal the number, rule Zero, tenor 0 days, and 0 in all else. `moved` is the greatest number of days
+// between the paid and the unadjusted date of an entry.
 pub struct Built {
     pub number: u8,
     pub count: u32,
     pub tries: u32,
     pub rule: Rule,
     pub tenor: Period,
+    pub moved: u32,
 }
 
 // What a build that is refused answers.
@@ -100,6 +102,7 @@ pub fn refused(n: u8) -> Built
             length: 0,
             unit: Unit::Days,
         },
+        moved: 0,
     }
 }
 

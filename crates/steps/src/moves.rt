@@ -9,13 +9,14 @@ use crate::Request;
 use crate::rules;
 use calendar::Convention;
 use calendar::month_ends;
+use calendar::moves;
 use calendar::search;
 use date::Date;
 use date::Dated;
 use date::civil;
 use date::span;
 
-fn third_wednesday(day: u32) -> Dated
+pub fn third_wednesday(day: u32) -> Dated
     ensures { λ r. ⌜ dated r ≡ thirdWednesday day ⌝ }
 {
     let f = civil::fields_of(day);
@@ -28,9 +29,9 @@ pub fn moved(day: u32, what: Move, mask: u8, closed: &[u32]) -> Dated
     match what {
         Move::Stay => Dated::Day(Date { day }),
         Move::ThirdWednesdays => third_wednesday(day),
-        Move::Adjust(convention) => search::adjust(day, convention, mask, closed),
+        Move::Adjust(convention) => moves::date_of(search::adjust(day, convention, mask, closed)),
         Move::MonthEnds => span::last_of_month(day),
-        Move::OpenMonthEnds => month_ends::last_open(day, mask, closed),
+        Move::OpenMonthEnds => moves::date_of(month_ends::last_open(day, mask, closed)),
     }
 }
 

@@ -1,13 +1,14 @@
 -- The invariant of the loop over the candidates, and a law for each way through a turn of it.
 -- Assumes nothing.
 use mathlib.Core.Path.{_≡_, refl, sym, ap, _∙_, subst}
-use mathlib.Core.Bool.{Bool, true, false}
+use mathlib.Core.Bool.{Bool, true, false, false≢true, not, _&&_}
 use mathlib.Core.List.{List, _∷_}
 use Prim.Native.Nat.{ℕ, suc, _+_, _-_, _≤_, _<_}
 use native.Mathlib.Numerals.{add-one}
 use native.Mathlib.Omega.{arith}
 use lib.ListN.{length, set}
 use lib.Dec.{eqb}
+use borrow.Author.Tests.{eq-eqb}
 use Rattle.refusal.specs.Answer.{Answer, given, refused, then, BOOK}
 use Rattle.date.specs.Civil.{pickN}
 use Rattle.date.specs.declared.Date.{Date}
@@ -188,3 +189,9 @@ module _ (mask : ℕ) (closed : List ℕ) (a b : Convention) (e : adjusted mask 
   walk-alike course room fuel k l r w paid g =
       gives-as (ap (λ (f : ℕ → ℕ → Answer steps.Turn). walk f room fuel k l) (turn-alike course))
       (gives-less (λ t s. looped-alike (course .back) room w paid (t .0) s) g)
+
+-- ---- lists that do not have their places
+pub unlent : (dates paid marks : ℕ) (whole : Bool) → whole ≡ (eqb dates 4096 && (eqb paid 4096 && eqb marks 4096)) → not whole ≡ true → dates ≡ 4096 → paid ≡ 4096 → marks ≡ 4096 → ⊥
+unlent dates paid marks whole e f d p m =
+    let all : (eqb dates 4096 && (eqb paid 4096 && eqb marks 4096)) ≡ true = simp (eq-eqb dates 4096 d, eq-eqb paid 4096 p, eq-eqb marks 4096 m) in
+    false≢true (sym (ap not (e ∙ all)) ∙ f)

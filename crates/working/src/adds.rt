@@ -13,6 +13,7 @@ use crate::Adjusting;
 use crate::Filled;
 use crate::Tip;
 use crate::lists;
+use calendar::moves;
 use calendar::search;
 use date::Date;
 use date::Dated;
@@ -56,7 +57,7 @@ fn front_of(front: u32, newest: u32, adjusting: Adjusting, closed: &[u32]) -> Da
 {
     if front == 0 {
         let convention = adjusting.convention;
-        return search::adjust(newest, convention, adjusting.mask, closed);
+        return moves::date_of(search::adjust(newest, convention, adjusting.mask, closed));
     }
     Dated::Day(Date { day: front })
 }
@@ -82,7 +83,7 @@ pub fn put_new(
         Dated::Day(a) => a,
     };
     let convention = adjusting.convention;
-    let b = match search::adjust(day, convention, adjusting.mask, closed) {
+    let b = match moves::date_of(search::adjust(day, convention, adjusting.mask, closed)) {
         Dated::Refused(k) => return Added::Refused(k),
         Dated::Day(b) => b,
     };

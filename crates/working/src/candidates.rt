@@ -9,6 +9,7 @@ ghost use Rattle.working.specs.Turning.{Knows, Compared, turnOn};
 ghost use Rattle.working.specs.Paces.{pace};
 use crate::Adjusting;
 use crate::Course;
+use calendar::moves;
 use calendar::search;
 use calendar::search::Near;
 use calendar::search::Placed;
@@ -99,7 +100,7 @@ fn compare(day: u32, known: Known, adjusting: Adjusting, closed: &[u32]) -> Turn
     let newest = known.newest;
     let mut held = known.front;
     if known.front == 0 {
-        let found = search::adjust(newest, convention, adjusting.mask, closed);
+        let found = moves::date_of(search::adjust(newest, convention, adjusting.mask, closed));
         match found {
             Dated::Refused(n) => return Turn::Stop(n),
             Dated::Day(a) => {

@@ -1,7 +1,9 @@
 // The working lists, dates and marks, and the paid dates beside the dates of the loop: filled from the far end in backward builds, from
 // the near end in others.
 ghost use mathlib.Core.Path.{_≡_};
+ghost use mathlib.Core.Bool.{_&&_};
 ghost use Prim.Native.Nat.{_-_, _<_};
+ghost use lib.Dec.{eqb};
 ghost use lib.ListN.{length, set};
 ghost use Rattle.refusal.specs.Answer.{then};
 ghost use Rattle.steps.specs.Generate.{nothing, put};
@@ -16,6 +18,19 @@ fn has_place(n: usize, dates: usize, marks: usize) -> bool
         return dates == 4096 && marks == 4096;
     }
     false
+}
+
+// Whether lists of these lengths have their 4,096 places: tested once before a loop, so that no turn of it tests a length.
+pub(crate) fn are_whole(dates: usize, paid: usize, marks: usize) -> bool
+    ensures { λ r. ⌜ r ≡ (eqb dates 4096 && (eqb paid 4096 && eqb marks 4096)) ⌝ }
+{
+    if dates != 4096 {
+        return false;
+    }
+    if paid != 4096 {
+        return false;
+    }
+    marks == 4096
 }
 
 // Where the next date goes when n are there.

@@ -13,6 +13,7 @@ use crate::candidates;
 use crate::candidates::Known;
 use crate::candidates::Turn;
 use crate::lists;
+use calendar::moves;
 use calendar::search;
 use calendar::search::Near;
 use date::Dated;
@@ -38,7 +39,7 @@ fn first_tip(
 {
     let newest = lists::newest(back, n, work);
     let convention = adjusting.convention;
-    let found = search::adjust(newest, convention, adjusting.mask, closed);
+    let found = moves::date_of(search::adjust(newest, convention, adjusting.mask, closed));
     match found {
         Dated::Refused(_) => Tip {
             n,
@@ -57,9 +58,8 @@ fn first_tip(
     }
 }
 
-// Candidates are put behind the `start` dates that are there, and their adjusted dates into `paid`, up to the first beyond the exit
-// date. No candidate beyond the number of the span's last day is a day of it, so 2 is what the loop would meet there.
-pub fn walk(
+// The loop, on lists that have their places.
+fn turns(
     course: Course,
     room: usize,
     adjusting: Adjusting,
@@ -123,4 +123,24 @@ pub fn walk(
         }
     }
     Walked::Refused(refusal::BOOK)
+}
+
+// Candidates are put behind the `start` dates that are there, and their adjusted dates into `paid`, up to the first beyond the exit
+// date. No candidate beyond the number of the span's last day is a day of it, so 2 is what the loop would meet there.
+pub fn walk(
+    course: Course,
+    room: usize,
+    adjusting: Adjusting,
+    closed: &[u32],
+    start: usize,
+    work: &mut [u32],
+    paid: &mut [u32],
+    marks: &mut [u8],
+) -> Walked
+    ensures { λ r. ⌜ Walks (adjusting .mask) (now (closed .entry)) (adjusting .convention) (course .back) room (walk (turnOn course (adjusting .mask) (now (closed .entry)) (adjusting .convention)) room lastTry 1) start (working (now (work .entry)) (now (marks .entry))) (now (paid .entry)) r (working (now (work .exit)) (now (marks .exit))) (now (paid .exit)) ⌝ }
+{
+    if !lists::are_whole(work.len(), paid.len(), marks.len()) {
+        return Walked::Refused(refusal::ROOM);
+    }
+    turns(course, room, adjusting, closed, start, work, paid, marks)
 }

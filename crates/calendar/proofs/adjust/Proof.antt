@@ -1,9 +1,9 @@
 -- `calendar::adjust` meets its contract.
 -- Assumes nothing.
-use Rattle.date.specs.Date.{dated}
 use Rattle.calendar.specs.Calendar.{adjustOf}
+use Rattle.calendar.specs.Moves.{moved, adjustMoveOf}
 use Rattle.calendar.proofs.Ways.{sound-closed}
-use Rattle.calendar.specs.Laws.Guards.{barred, cleared}
+use Rattle.calendar.specs.Laws.Moved.{moved-barred, moved-cleared}
 use borrow.Author.Needs.{needs}
 use Rattle.calendar.proofs.adjust.Statement.{statement}
 use Rattle.calendar.proofs.adjust.Tie as tie
@@ -12,29 +12,29 @@ in-book-requires : tie.Need-in-book-requires
 in-book-requires c κs = search needs
 
 returns : tie.Need-returns
-unfolding dated adjustOf
-returns c = barred _ _ _ _ (c .before .in-book .ensures) (c .if1 .taken)
+unfolding moved adjustOf adjustMoveOf
+returns c = moved-barred _ _ _ _ _ (c .before .in-book .ensures) (c .if1 .taken)
 
 is-sound-requires : tie.Need-is-sound-requires
 is-sound-requires c κs = search needs
 
 returns-2 : tie.Need-returns-2
-unfolding dated adjustOf
+unfolding moved adjustOf adjustMoveOf
 returns-2 c =
-    cleared _ _ _ _ _ (c .before .before .before .in-book .ensures) (c .before .before .if1 .left)
-    (barred _ _ _ _ (c .before .is-sound .ensures) (c .if2 .taken))
+    moved-cleared _ _ _ _ _ _ (c .before .before .before .in-book .ensures) (c .before .before .if1 .left)
+    (moved-barred _ _ _ _ _ (c .before .is-sound .ensures) (c .if2 .taken))
 
 adjust-requires : tie.Need-adjust-requires
 adjust-requires c κs = search needs
 
 returns-3 : tie.Need-returns-3
-unfolding adjustOf
+unfolding adjustOf adjustMoveOf
 returns-3 c =
     let sound : tie.After-is-sound = search in
     let else1 : tie.Else1 = search in
     let book : tie.After-in-book = search in
-    cleared _ _ _ _ _ (book .in-book .ensures) (else1 .if1 .left)
-    (cleared _ _ _ _ _ (sound .is-sound .ensures) (c .before .if2 .left)
+    moved-cleared _ _ _ _ _ _ (book .in-book .ensures) (else1 .if1 .left)
+    (moved-cleared _ _ _ _ _ _ (sound .is-sound .ensures) (c .before .if2 .left)
     (c .adjust .ensures (sound-closed _ _ _ (sound .is-sound .ensures) (c .before .if2 .left))))
 
 pub adjust-spec : {M : Type 1} → statement M

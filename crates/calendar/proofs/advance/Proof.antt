@@ -3,10 +3,11 @@
 use mir.Syntax.{w32}
 use mir.Val.{SFits}
 use Rattle.period.specs.Laws.Signed.{same32}
-use Rattle.date.specs.Date.{dated}
 use Rattle.calendar.specs.Calendar.{advancedOf}
-use Rattle.calendar.proofs.Ways.{sound-closed, tenor-long, tenor-fits}
-use Rattle.calendar.specs.Laws.Guards.{barred, cleared}
+use Rattle.calendar.specs.Moves.{moved, advanceMoveOf}
+use Rattle.calendar.proofs.Ways.{sound-closed}
+use Rattle.calendar.proofs.Moving.{tenor-long, tenor-fits}
+use Rattle.calendar.specs.Laws.Moved.{moved-barred, moved-cleared}
 use borrow.Author.Needs.{needs}
 use Rattle.calendar.proofs.advance.Statement.{statement}
 use Rattle.calendar.proofs.advance.Tie as tie
@@ -15,17 +16,17 @@ in-book-requires : tie.Need-in-book-requires
 in-book-requires c κs = search needs
 
 returns : tie.Need-returns
-unfolding dated advancedOf
-returns c = barred _ _ _ _ (c .before .in-book .ensures) (c .if1 .taken)
+unfolding moved advancedOf advanceMoveOf
+returns c = moved-barred _ _ _ _ _ (c .before .in-book .ensures) (c .if1 .taken)
 
 is-sound-requires : tie.Need-is-sound-requires
 is-sound-requires c κs = search needs
 
 returns-2 : tie.Need-returns-2
-unfolding dated advancedOf
+unfolding moved advancedOf advanceMoveOf
 returns-2 c =
-    cleared _ _ _ _ _ (c .before .before .before .in-book .ensures) (c .before .before .if1 .left)
-    (barred _ _ _ _ (c .before .is-sound .ensures) (c .if2 .taken))
+    moved-cleared _ _ _ _ _ _ (c .before .before .before .in-book .ensures) (c .before .before .if1 .left)
+    (moved-barred _ _ _ _ _ (c .before .is-sound .ensures) (c .if2 .taken))
 
 is-negative-requires : tie.Need-is-negative-requires
 is-negative-requires c κs = search needs
@@ -37,7 +38,7 @@ is-short-requires : tie.Need-is-short-requires
 is-short-requires c κs = search needs
 
 returns-3 : tie.Need-returns-3
-unfolding dated advancedOf
+unfolding moved advancedOf advanceMoveOf
 returns-3 c =
     let short : tie.After-is-short = search in
     let size : tie.After-size = search in
@@ -48,15 +49,15 @@ returns-3 c =
     let book : tie.After-in-book = search in
     let start : tie.Start = search in
     let fits : SFits w32 (start .args .tenor .length) = record { sfits = told .struct-told .given .0 .1 } in
-    cleared _ _ _ _ _ (book .in-book .ensures) (in-it .if1 .left)
-    (cleared _ _ _ _ _ (sound .is-sound .ensures) (in-rule .if2 .left)
-    (tenor-long (start .args .tenor .length) _ _ _ _ (same32 _ fits) (size .size .ensures) (short .is-short .ensures) _ (c .if3 .taken)))
+    moved-cleared _ _ _ _ _ _ (book .in-book .ensures) (in-it .if1 .left)
+    (moved-cleared _ _ _ _ _ _ (sound .is-sound .ensures) (in-rule .if2 .left)
+    (tenor-long (start .args .tenor .length) _ _ _ _ (same32 _ fits) (size .size .ensures) (short .is-short .ensures) _ _ (c .if3 .taken)))
 
 advance-requires : tie.Need-advance-requires
 advance-requires c κs = search needs
 
 returns-4 : tie.Need-returns-4
-unfolding advancedOf
+unfolding advancedOf advanceMoveOf
 returns-4 c =
     let short : tie.After-is-short = search in
     let size : tie.After-size = search in
@@ -68,8 +69,8 @@ returns-4 c =
     let book : tie.After-in-book = search in
     let start : tie.Start = search in
     let fits : SFits w32 (start .args .tenor .length) = record { sfits = told .struct-told .given .0 .1 } in
-    cleared _ _ _ _ _ (book .in-book .ensures) (in-it .if1 .left)
-    (cleared _ _ _ _ _ (sound .is-sound .ensures) (in-rule .if2 .left)
+    moved-cleared _ _ _ _ _ _ (book .in-book .ensures) (in-it .if1 .left)
+    (moved-cleared _ _ _ _ _ _ (sound .is-sound .ensures) (in-rule .if2 .left)
     (tenor-fits (start .args .tenor .length) _ _ _ _ (same32 _ fits) (size .size .ensures) (short .is-short .ensures) _ _ _ _ _ _ _ (negative .is-negative .ensures) (c .before .if3 .left)
     (c .advance .ensures (sound-closed _ _ _ (sound .is-sound .ensures) (in-rule .if2 .left)))))
 

@@ -110,8 +110,7 @@ module _ (n w m y : ℕ) (a : 1 ≤ w) (b : w ≤ 7) (e : 1 ≤ n) (f : n ≤ 5)
       holds BOOK (leb 1 w) _ _ (le-leb 1 w a)
       (holds BOOK (leb w 7) _ _ (le-leb w 7 b) (holds BOOK (leb 1 n) _ _ (le-leb 1 n e) (holds BOOK (leb n 5) _ _ (le-leb n 5 f) h)))
 
--- ---- a difference of two days of the book
-
+-- ---- days of the book
 pub book-le : (n : ℕ) → inBook n ≡ true → n ≤ 803168
 unfolding inBook
 book-le n e = leb-true n 803168 (both (leb 693961 n) (leb n 803168) e .1)
@@ -120,19 +119,20 @@ pub book-from : (n : ℕ) → inBook n ≡ true → 693961 ≤ n
 unfolding inBook
 book-from n e = leb-true 693961 n (both (leb 693961 n) (leb n 803168) e .0)
 
+-- ---- a difference of two days up to the span's last, of the book or not
 pos-sub : (a b : ℕ) → pos a -ℤ pos b ≡ subℕ a b
 pos-sub a zero = simp (le-ltb a 0 (omega arith)) (ap pos (omega arith))
 pos-sub a (suc b) = refl
 
-pub diff32 : (a b : ℕ) → a ≤ 803168 → b ≤ 803168 → toZ w32 a -ℤ toZ w32 b ≡ subℕ a b
+pub diff32 : (a b : ℕ) → a ≤ SPAN-LAST → b ≤ SPAN-LAST → toZ w32 a -ℤ toZ w32 b ≡ subℕ a b
 diff32 a b p q = rw (toZ-pos w32 a (omega arith), toZ-pos w32 b (omega arith)) (pos-sub a b)
 
-diff-fits-go : (a b : ℕ) (t : Bool) → a ≤ 803168 → b ≤ 803168 → SFits w32 (cond t (negsuc (b - suc a)) (pos (a - b)))
+diff-fits-go : (a b : ℕ) (t : Bool) → a ≤ SPAN-LAST → b ≤ SPAN-LAST → SFits w32 (cond t (negsuc (b - suc a)) (pos (a - b)))
 diff-fits-go a b true p q = record { sfits = omega arith }
 diff-fits-go a b false p q = record { sfits = omega arith }
 
-pub diff-fits : (a b : ℕ) → a ≤ 803168 → b ≤ 803168 → SFits w32 (subℕ a b)
+pub diff-fits : (a b : ℕ) → a ≤ SPAN-LAST → b ≤ SPAN-LAST → SFits w32 (subℕ a b)
 diff-fits a b p q = diff-fits-go a b (ltb a b) p q
 
-pub diff-back : (a b : ℕ) → a ≤ 803168 → b ≤ 803168 → toZ w32 (ofZ w32 (subℕ a b)) ≡ subℕ a b
+pub diff-back : (a b : ℕ) → a ≤ SPAN-LAST → b ≤ SPAN-LAST → toZ w32 (ofZ w32 (subℕ a b)) ≡ subℕ a b
 diff-back a b p q = toZ-ofZ {w = w32} {z = subℕ a b} (diff-fits a b p q)

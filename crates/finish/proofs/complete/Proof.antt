@@ -178,7 +178,7 @@ returns-4 c =
     let pairs : tie.After-pair-dates = search in
     let free : tie.Else1 = search in
     let lent : tie.After-lent-refusal = search in
-    λ ok k. written-out _ _ _ _ _ _ _ _ _ _ _ (lent .lent-refusal .ensures) (free .if1 .left) _ _ _ (pairs .pair-dates .ensures ok k) (told .enum-told .given .1) _ _ _ (merged .merge .ensures) _ _ _ _ _ _ _ (left .left2 .given .1) (paid2 .paid2 .given) (omega (arith, work .work .given, paid .paid .given, lent-beside _ _ _ _ _ _ _ (lent .lent-refusal .ensures) (free .if1 .left))) (follow .follow .ensures) (out .copy-out .ensures) (done .accepted .ensures)
+    λ ok k. written-out _ _ _ _ _ _ _ _ _ _ _ (lent .lent-refusal .ensures) (free .if1 .left) _ _ _ (pairs .pair-dates .ensures ok k) (told .enum-told .given .1) _ _ _ (merged .merge .ensures) _ _ _ _ _ _ _ _ (left .left2 .given .1) (paid2 .paid2 .given) (omega (arith, work .work .given, paid .paid .given, lent-beside _ _ _ _ _ _ _ (lent .lent-refusal .ensures) (free .if1 .left))) (follow .follow .ensures) (out .copy-out .ensures) (done .accepted .ensures)
 
 pub complete-spec : {M : Type 1} → statement M
 complete-spec =

@@ -13,7 +13,7 @@ use Rattle.date.specs.Civil.{pickN}
 use Rattle.steps.specs.declared.Request.{Request}
 use Rattle.steps.specs.declared.Built.{Built}
 use Rattle.steps.specs.Build.{refusedBuilt, answered, datesAfter, flagsAfter}
-use Rattle.steps.specs.Entries.{Entries, Written, paidOf, unadjustedAfter, pairsOf, mergedEntries}
+use Rattle.steps.specs.Entries.{Entries, Written, paidOf, movedOf, unadjustedAfter, pairsOf, mergedEntries}
 use Rattle.finish.specs.Finishing.{Lent, lentRefusal, unlessRefused, completed}
 
 module _ (work paid marks dates flags unadjusted : ℕ) where
@@ -103,7 +103,7 @@ lent-fits l = let m = l .most in let f = l .fits in room-for _ _ _ _ _ _ (l .eve
 
 -- ---- what was written
 pub written-refused : (q : Request) (n : ℕ) (r : Built) (dates flags unadjusted : List ℕ) → r ≡ refusedBuilt n → Written q (refused n) r dates flags unadjusted dates flags unadjusted
-unfolding paidOf then answered datesAfter flagsAfter unadjustedAfter
+unfolding paidOf movedOf then answered datesAfter flagsAfter unadjustedAfter
 written-refused q n r dates flags unadjusted e = record { answer = e; dates-after = refl; flags-after = refl; unadjusted-after = refl }
 
 pub written-as : (q : Request) (o o′ : Answer Entries) (r : Built) (dates flags unadjusted dates′ flags′ unadjusted′ : List ℕ) → o ≡ o′ → Written q o r dates flags unadjusted dates′ flags′ unadjusted′ → Written q o′ r dates flags unadjusted dates′ flags′ unadjusted′

@@ -12,8 +12,9 @@ use Rattle.steps.specs.declared.Request.{Request}
 use Rattle.steps.specs.declared.Built.{Built}
 use Rattle.steps.specs.Rules.{ruleNumber, oneOf, isZero, tenorUnder, tenorInForce}
 use Rattle.steps.specs.Build.{Schedule, answered, over, datesAfter, flagsAfter}
-use Rattle.steps.specs.Entries.{entriesOf, paidOf, unadjustedAfter, Written}
+use Rattle.steps.specs.Entries.{entriesOf, paidOf, movedOf, unadjustedAfter, Written}
 use Rattle.steps.specs.Laws.Entries.{NothingAdjusts, twice, with-its-dates}
+use Rattle.steps.specs.Laws.Farthest.{same-dates}
 use Rattle.plain.specs.Forward.{under}
 use Rattle.plain.specs.Agree.{Whole, EarlyDay, SameDay, Evenly, Direction, forward, backward, SameButRule, AgreeInMemory, EvenlyWritten, BothEvenlyInMemory}
 use Rattle.plain.specs.Laws.Memory.{tenor-under, outcome, kept-of, untouched}
@@ -34,15 +35,15 @@ module _ (q : Request) (k : ℕ) (w : Whole q k) where
       ∙ ap (λ (o : Answer Schedule). need UNEVEN (eqb dates unadjusted) (then o twice)) (both-agree-wider q k w same closed dates flags)
       ∙ sym (with-its-dates (under Backward q) (nothing-adjusts Backward) closed dates flags unadjusted)
 
-  same-answer : (o : Answer Schedule) → SameButRule (answered (under Forward q) o) (answered (under Backward q) o)
+  same-answer : (moved : ℕ) (o : Answer Schedule) → SameButRule (answered (under Forward q) moved o) (answered (under Backward q) moved o)
   unfolding answered
-  same-answer (refused n) = record { number = refl; count = refl; tries = refl; tenor = refl }
-  same-answer (given s) = record { number = refl; count = refl; tries = refl; tenor = tenor-of Forward forward ∙ sym (tenor-of Backward backward) }
+  same-answer moved (refused n) = record { number = refl; count = refl; tries = refl; tenor = refl; moved = refl }
+  same-answer moved (given s) = record { number = refl; count = refl; tries = refl; tenor = tenor-of Forward forward ∙ sym (tenor-of Backward backward); moved = refl }
 
   written-evenly : {r : Built} {dates flags unadjusted dates′ flags′ unadjusted′ : List ℕ} (rule : Rule) → Direction rule → (s : Schedule) → Evenly q k s → Written (under rule q) (twice s) r dates flags unadjusted dates′ flags′ unadjusted′ → EvenlyWritten q k rule r dates flags unadjusted dates′ flags′ unadjusted′
-  unfolding answered datesAfter flagsAfter unadjustedAfter paidOf then over
+  unfolding answered datesAfter flagsAfter unadjustedAfter paidOf movedOf then over
   written-evenly {r} {dates} {flags} {unadjusted} rule d s e v = record {
-    answer = v .answer ∙ (λ i. record { number = 0; count = e .dates .count i; tries = e .tries i; rule = rule-of q k w rule i; tenor = tenor-of rule d i });
+    answer = v .answer ∙ (λ i. record { number = 0; count = e .dates .count i; tries = e .tries i; rule = rule-of q k w rule i; tenor = tenor-of rule d i; moved = same-dates (s .dates) i });
     its-dates = s .dates;
     even = e .dates;
     dates-then = v .dates-after ∙ ap (λ (x : ℕ). s .dates ++ drop x dates) (e .dates .count);
@@ -53,7 +54,7 @@ module _ (q : Request) (k : ℕ) (w : Whole q k) where
 pub agree-in-memory-wider : AgreeInMemory SameDay
 agree-in-memory-wider q k w same closed dates flags unadjusted r r′ dates′ dates″ flags′ flags″ unadjusted′ unadjusted″ a b =
     let c = kept-of (same-entries q k w same closed (length dates) (length flags) (length unadjusted)) a in
-    (rw (c .answer, b .answer) (same-answer q k w _), c .dates-after ∙ sym (b .dates-after), c .flags-after ∙ sym (b .flags-after), c .unadjusted-after ∙ sym (b .unadjusted-after))
+    (rw (c .answer, b .answer) (same-answer q k w _ _), c .dates-after ∙ sym (b .dates-after), c .flags-after ∙ sym (b .flags-after), c .unadjusted-after ∙ sym (b .unadjusted-after))
 
 pub evenly-in-memory-wider : BothEvenlyInMemory SameDay
 unfolding then

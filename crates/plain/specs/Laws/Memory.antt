@@ -12,8 +12,9 @@ use Rattle.steps.specs.declared.Request.{Request}
 use Rattle.steps.specs.declared.Built.{Built}
 use Rattle.steps.specs.Rules.{ruleNumber, oneOf, isZero, tenorUnder, ruleInForce, tenorInForce}
 use Rattle.steps.specs.Build.{Schedule, buildOf, answered, over, datesAfter, flagsAfter}
-use Rattle.steps.specs.Entries.{Entries, entriesOf, paidOf, unadjustedAfter, Written}
+use Rattle.steps.specs.Entries.{Entries, entriesOf, paidOf, movedOf, unadjustedAfter, Written}
 use Rattle.steps.specs.Laws.Entries.{NothingAdjusts, twice, with-its-dates}
+use Rattle.steps.specs.Laws.Farthest.{same-dates}
 use Rattle.plain.specs.Demand.{Plain, Accepted, WrittenOut, LeftAlone, Demand3InMemory}
 use Rattle.plain.specs.Forward.{PlainForward, AcceptedOn, WrittenOn, DemandOnInMemory}
 use Rattle.plain.specs.Laws.Walked.{rule-is}
@@ -42,19 +43,21 @@ module _ {q : Request} {r : Built} {dates flags unadjusted dates′ flags′ una
     number = ap (λ (b : Built). b .number) (w .answer);
     count = ap (λ (b : Built). b .count) (w .answer);
     tries = ap (λ (b : Built). b .tries) (w .answer);
+    moved = ap (λ (b : Built). b .moved) (w .answer);
     dates-same = w .dates-after;
     flags-same = w .flags-after;
     unadjusted-same = w .unadjusted-after;
   }
 
   written : Plain q → (ds : List ℕ) (m : ℕ) (s : Schedule) → Written q (twice s) r dates flags unadjusted dates′ flags′ unadjusted′ → Accepted q ds m s → WrittenOut q ds m r dates flags unadjusted dates′ flags′ unadjusted′
-  unfolding answered datesAfter flagsAfter unadjustedAfter paidOf then over tenorUnder isZero oneOf ruleNumber
+  unfolding answered datesAfter flagsAfter unadjustedAfter paidOf movedOf then over tenorUnder isZero oneOf ruleNumber
   written p ds m s w t = record {
     number = ap (λ (b : Built). b .number) (w .answer);
     count = ap (λ (b : Built). b .count) (w .answer) ∙ ap (λ (l : List ℕ). length l) (t .dates);
     tries = ap (λ (b : Built). b .tries) (w .answer) ∙ t .tries;
     rule = ap (λ (b : Built). b .rule) (w .answer) ∙ rule-is q p;
     tenor = ap (λ (b : Built). b .tenor) (w .answer) ∙ tenor-under q Backward (rule-is q p);
+    moved = ap (λ (b : Built). b .moved) (w .answer) ∙ same-dates (s .dates);
     dates-then = w .dates-after ∙ ap (λ (l : List ℕ). l ++ drop (length l) dates) (t .dates);
     its-flags = s .flags;
     flagged = t .flags;
@@ -63,9 +66,9 @@ module _ {q : Request} {r : Built} {dates flags unadjusted dates′ flags′ una
   }
 
   written-on : PlainForward q → (ds : List ℕ) (m : ℕ) (s : Schedule) → Written q (twice s) r dates flags unadjusted dates′ flags′ unadjusted′ → AcceptedOn q ds m s → WrittenOn q ds m r dates flags unadjusted dates′ flags′ unadjusted′
-  unfolding answered datesAfter flagsAfter unadjustedAfter paidOf then over tenorUnder isZero oneOf ruleNumber
+  unfolding answered datesAfter flagsAfter unadjustedAfter paidOf movedOf then over tenorUnder isZero oneOf ruleNumber
   written-on p ds m s w t = record {
-    answer = w .answer ∙ (λ i. record { number = 0; count = length (t .dates i); tries = t .tries i; rule = rule-on q p i; tenor = tenor-under q Forward (rule-on q p) i });
+    answer = w .answer ∙ (λ i. record { number = 0; count = length (t .dates i); tries = t .tries i; rule = rule-on q p i; tenor = tenor-under q Forward (rule-on q p) i; moved = same-dates (s .dates) i });
     dates-then = w .dates-after ∙ ap (λ (l : List ℕ). l ++ drop (length l) dates) (t .dates);
     its-flags = s .flags;
     flagged = t .flags;

@@ -3,7 +3,7 @@
 use mathlib.Core.Path.{ap, _∙_}
 use lib.IntN.{natAbs}
 use Rattle.period.specs.Laws.Signed.{same32}
-use Rattle.recorded.proofs.Recording.{second, third, fourth, fifth, record-put}
+use Rattle.recorded.proofs.Recording.{second, third, fourth, fifth, sixth, seventh, record-put}
 use borrow.Author.Needs.{needs}
 use Rattle.recorded.proofs.put_record.Statement.{statement}
 use Rattle.recorded.proofs.put_record.Tie as tie
@@ -53,7 +53,19 @@ unit-number-requires : tie.Need-unit-number-requires
 unit-number-requires c κs = search needs
 
 slice-write-answer-6 : tie.Need-slice-write-answer-6
-slice-write-answer-6 c = search needs
+slice-write-answer-6 c =
+    let size : tie.After-size = search in
+    let rule-number : tie.After-rule-number = search in
+    let s : tie.Start = search in
+    sixth (s .args .answer .now) (s .pre) (s .args .b .number) (s .args .b .count) (s .args .b .tries) (rule-number .rule-number .result) (size .size .result)
+
+slice-write-answer-7 : tie.Need-slice-write-answer-7
+slice-write-answer-7 c =
+    let unit-number : tie.After-unit-number = search in
+    let size : tie.After-size = search in
+    let rule-number : tie.After-rule-number = search in
+    let s : tie.Start = search in
+    seventh (s .args .answer .now) (s .pre) (s .args .b .number) (s .args .b .count) (s .args .b .tries) (rule-number .rule-number .result) (size .size .result) (unit-number .unit-number .result)
 
 same-length : tie.Need-same-length
 same-length c = search needs
@@ -61,12 +73,14 @@ same-length c = search needs
 returns : tie.Need-returns
 returns c =
     let struct-told : tie.After-struct-told = search in
+    let unit-number : tie.After-unit-number = search in
+    let size : tie.After-size = search in
     let rule-number : tie.After-rule-number = search in
     let start : tie.Start = search in
     record-put _ _ _ _ _ (start .pre)
     (rule-number .rule-number .ensures)
-    (c .before .size .ensures ∙ ap natAbs (same32 (start .args .b .tenor .length) (record { sfits = struct-told .struct-told .given .0 .1 })))
-    (c .unit-number .ensures)
+    (size .size .ensures ∙ ap natAbs (same32 (start .args .b .tenor .length) (record { sfits = struct-told .struct-told .given .0 .1 })))
+    (unit-number .unit-number .ensures)
 
 pub put-record-spec : {M : Type 1} → statement M
 put-record-spec =
@@ -83,5 +97,6 @@ put-record-spec =
     slice-write-answer-5
     unit-number-requires
     slice-write-answer-6
+    slice-write-answer-7
     same-length
     returns)

@@ -1,9 +1,8 @@
 -- `calendar::month_ends::last_open` meets its contract.
 -- Assumes nothing.
-use Rattle.refusal.specs.Laws.Answers.{then-given, then-refused}
-use Rattle.date.specs.Date.{dated}
-use Rattle.date.specs.Laws.Made.{given-day, refused-day}
-use Rattle.calendar.specs.AnyCalendar.{lastOpen, towards}
+use Rattle.calendar.specs.AnyCalendar.{lastOpen}
+use Rattle.calendar.specs.Moves.{moved}
+use Rattle.calendar.proofs.Moving.{from-there, from-nowhere}
 use borrow.Author.Needs.{needs}
 use Rattle.calendar.proofs.month_ends.last_open.Statement.{statement}
 use Rattle.calendar.proofs.month_ends.last_open.Tie as tie
@@ -14,26 +13,24 @@ last-of-month-requires c κs = search needs
 enum-known-last : tie.Need-enum-known-last
 enum-known-last c = search needs
 
-toward-requires : tie.Need-toward-requires
-toward-requires c κs = search needs
+adjust-requires : tie.Need-adjust-requires
+adjust-requires c κs = search needs
 
 enum-known-last-2 : tie.Need-enum-known-last-2
 enum-known-last-2 c = search needs
 
 returns : tie.Need-returns
-unfolding lastOpen towards
+unfolding lastOpen
 returns c =
     let at-last : tie.After-last = search in
     let last : tie.After-last-of-month = search in
-    let end = at-last .last .given .0 .0 in
-    λ ok. then-given _ (end .day) _ _ (given-day (last .last-of-month .result) end _ (last .last-of-month .ensures) (cc)) (c .toward .ensures ok)
+    λ ok. from-there (last .last-of-month .result) _ _ (last .last-of-month .ensures) (at-last .last .given .0 .0) _ (cc) (c .adjust .ensures ok)
 
 returns-2 : tie.Need-returns-2
-unfolding dated lastOpen
+unfolding moved lastOpen
 returns-2 c =
-    let last = c .before .before .before .last-of-month in
-    let number = c .before .last2 .given .0 .0 in
-    λ ok. then-refused _ number _ (refused-day (last .result) number _ (last .ensures) (cc))
+    let last : tie.After-last-of-month = search in
+    λ ok. from-nowhere (last .last-of-month .result) _ _ (last .last-of-month .ensures) (c .before .last2 .given .0 .0) _ (cc)
 
 pub last-open-spec : {M : Type 1} → statement M
 last-open-spec =
@@ -41,7 +38,7 @@ last-open-spec =
     (tie.spec
     last-of-month-requires
     enum-known-last
-    toward-requires
+    adjust-requires
     enum-known-last-2
     returns
     returns-2)

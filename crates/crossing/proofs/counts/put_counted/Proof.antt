@@ -1,7 +1,9 @@
 -- `crossing::counts::put_counted` meets its contract.
 -- Assumes nothing.
 use mathlib.Core.Path.{ap}
+use lib.IntN.{ℤ}
 use Rattle.date.specs.Date.{counted}
+use Rattle.crossing.specs.Answers.{done}
 use Rattle.crossing.proofs.Counting.{place-short, place-given, place-refused}
 use borrow.Author.Needs.{needs}
 use Rattle.crossing.proofs.counts.put_counted.Statement.{statement}
@@ -16,7 +18,7 @@ minus-requires c κs = search needs
 
 returns : tie.Need-returns
 returns c =
-    place-short _ _ (c .minus .ok) (c .before .if1 .taken) (c .minus .ensures)
+    place-short _ _ _ _ (c .minus .ok) (c .before .if1 .taken) (c .minus .ensures)
 
 enum-known-d : tie.Need-enum-known-d
 enum-known-d c = search needs
@@ -41,14 +43,14 @@ unfolding counted
 returns-2 c =
     let d : tie.After-d = search in
     let else1 : tie.Else1 = search in
-    place-given _ _ (c .value .ok) (else1 .if1 .left) _ (record { sfits = c .before .known-told .given .0 .1 }) (ap counted (d .d .given .1)) (c .value .ensures)
+    place-given done (λ (z : ℤ). z) _ _ (c .value .ok) (else1 .if1 .left) _ (record { sfits = c .before .known-told .given .0 .1 }) (ap counted (d .d .given .1)) (c .value .ensures)
 
 returns-3 : tie.Need-returns-3
 unfolding counted
 returns-3 c =
     let d2 : tie.After-d2 = search in
     let else1 : tie.Else1 = search in
-    place-refused _ _ (c .minus2 .ok) (else1 .if1 .left) _ (ap counted (d2 .d2 .given .1)) (c .minus2 .ensures)
+    place-refused _ _ _ _ (c .minus2 .ok) (else1 .if1 .left) _ (ap counted (d2 .d2 .given .1)) (c .minus2 .ensures)
 
 pub put-counted-spec : {M : Type 1} → statement M
 put-counted-spec =

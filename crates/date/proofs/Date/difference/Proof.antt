@@ -6,15 +6,15 @@ use mathlib.Core.Bool.{Bool, true}
 use Prim.Native.Nat.{ℕ, _≤_}
 use Rattle.refusal.specs.Answer.{given}
 use Rattle.refusal.specs.Laws.Answers.{passed, failed}
-use Rattle.date.specs.Date.{counted, differenceOf, inBook}
+use Rattle.date.specs.Date.{SPAN-LAST, counted, differenceOf, inBook}
 use Rattle.date.specs.Laws.Moves.{book-le, diff32, diff-fits, diff-back}
 use borrow.Author.Needs.{needs}
 use Rattle.date.proofs.Date.difference.Statement.{statement}
 use Rattle.date.proofs.Date.difference.Tie as tie
 
 -- what a call of `in_book` that said yes tells of its day
-low : (t : Bool) (n : ℕ) → t ≡ inBook n → t ≡ true → n ≤ 803168
-low t n p e = book-le n (sym p ∙ e)
+low : (t : Bool) (n : ℕ) → t ≡ inBook n → t ≡ true → n ≤ SPAN-LAST
+low t n p e = omega (arith, book-le n (sym p ∙ e))
 
 in-book-requires : tie.Need-in-book-requires
 in-book-requires c κs = search needs

@@ -7,7 +7,7 @@ use Rattle.finish.proofs.moving.move_all.Statement.{statement}
 use Rattle.finish.proofs.moving.move_all.Tie as tie
 use Rattle.finish.proofs.moving.move_all.Reads as reads
 use Rattle.finish.proofs.moving.move_all.Lts as lts
-use Rattle.steps.proofs.moves.moved.Reads as moved-reads
+use Rattle.finish.proofs.moving.moved.Reads as moved-reads
 
 abbrev Inv-loop : tie.InvT-loop
 Inv-loop s₀ what mask closed i₀ s i = Underway mask closed what s₀ s i

@@ -10,6 +10,7 @@ use Rattle.date.specs.Laws.Made.{given-day}
 use Rattle.calendar.specs.Open.{closedOk}
 use Rattle.calendar.specs.Adjust.{adjusted}
 use Rattle.calendar.specs.Inner.Near.{known-near}
+use Rattle.calendar.specs.Laws.Moved.{took}
 use Rattle.calendar.specs.Laws.Told.{placed-day, placed-refused}
 use Rattle.working.specs.Turning.{Front}
 use Rattle.working.proofs.Turns.{compare-stop, compare-closed, compare-skip, compare-keep}
@@ -19,6 +20,7 @@ use Rattle.working.proofs.candidates.compare.Tie as tie
 use Rattle.working.proofs.candidates.compare.Reads as reads
 use Rattle.working.proofs.candidates.compare.Lts as lts
 use Rattle.calendar.proofs.search.adjust.Reads as adjust-reads
+use Rattle.calendar.proofs.moves.date_of.Reads as date-of-reads
 use Rattle.calendar.proofs.search.adjust_near.Reads as adjust-near-reads
 
 abbrev begins : tie.Joined1 → tie.Start
@@ -31,12 +33,15 @@ held : (j : tie.Joined1) →
     adjusted (begins j .args .adjusting .mask) (now (begins j .args .closed)) (begins j .args .adjusting .convention) (begins j .args .known .newest) ≡ given (j .if1 .held)
 held j ok f =
     ⊎-elim
-    (λ p. given-day (p .1 .result) (p .3 .given .0 .0) _ (p .1 .ensures ok) (p .3 .given .1) ∙ ap (λ (n : ℕ). given n) (sym (p .5)))
+    (λ p. given-day (p .2 .result) (p .4 .given .0 .0) _ (took _ _ _ _ (p .2 .ensures) (p .1 .ensures ok)) (p .4 .given .1) ∙ ap (λ (n : ℕ). given n) (sym (p .6)))
     (λ p. f .known (p .0 .left) ∙ ap (λ (n : ℕ). given n) (sym (p .1)))
     (j .if1 .came)
 
 adjust-requires : tie.Need-adjust-requires
 adjust-requires c κs = search needs
+
+date-of-requires : tie.Need-date-of-requires
+date-of-requires c κs = search needs
 
 enum-known-found : tie.Need-enum-known-found
 enum-known-found c = search needs
@@ -44,8 +49,9 @@ enum-known-found c = search needs
 returns : tie.Need-returns
 returns c =
     let stop : tie.After-found = search in
+    let taken : tie.After-date-of = search in
     let found : tie.After-adjust = search in
-    λ ok k. compare-stop _ _ _ _ _ (found .adjust .result) (found .adjust .ensures ok) (stop .found .given .0 .0) (stop .found .given .1)
+    λ ok k. compare-stop _ _ _ _ _ (taken .date-of .result) (took _ _ _ _ (taken .date-of .ensures) (found .adjust .ensures ok)) (stop .found .given .0 .0) (stop .found .given .1)
 
 enum-known-found-2 : tie.Need-enum-known-found-2
 enum-known-found-2 c = search needs
@@ -85,6 +91,7 @@ compare-spec =
     tie.close
     (tie.spec
     adjust-requires
+    date-of-requires
     enum-known-found
     returns
     enum-known-found-2
