@@ -46,6 +46,7 @@ enum {
     HERONSPAN_REQUEST = 17,         /* a number outside its list */
     HERONSPAN_BUFFER = 18,          /* the lent buffer is shorter than 20,000 bytes */
     HERONSPAN_NOTPLAIN = 19,        /* the coming date alone: a request that it does not answer */
+    HERONSPAN_BATCH = 20,           /* a book of over 64 requests, one cut short, or too few answer places */
     HERONSPAN_INDEX = 21,           /* an index that has not 601 places */
     HERONSPAN_SAME_DATE = 22,       /* adding a date that is closed already, or removing one that is not listed */
     HERONSPAN_FULL = 23,            /* a closed date more than 4,096 */
@@ -437,6 +438,8 @@ static inline const char *heronspan_refusal_name(int64_t answer) {
         return "BUFFER";
     case -HERONSPAN_NOTPLAIN:
         return "NOTPLAIN";
+    case -HERONSPAN_BATCH:
+        return "BATCH";
     case -HERONSPAN_INDEX:
         return "INDEX";
     case -HERONSPAN_SAME_DATE:

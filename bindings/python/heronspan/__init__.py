@@ -49,6 +49,7 @@ class Refusal(IntEnum):
     REQUEST = 17  # a number outside its list
     BUFFER = 18  # the lent buffer is shorter than 20,000 bytes
     NOTPLAIN = 19  # the coming date alone: a request that it does not answer
+    BATCH = 20  # a book of over 64 requests, one cut short, or too few answer places
     INDEX = 21  # an index that has not 601 places
     SAME = 22  # adding a date that is closed already, or removing one that is not listed
     FULL = 23  # a closed date more than 4,096

@@ -52,6 +52,8 @@ pub enum Refusal {
     Buffer = 18,
     /// The coming date alone: a request that it does not answer.
     Notplain = 19,
+    /// A book of over 64 requests, one cut short, or too few answer places.
+    Batch = 20,
     /// An index that has not 601 places.
     Index = 21,
     /// Adding a date that is closed already, or removing one that is not listed.
@@ -70,7 +72,7 @@ pub enum Refusal {
 }
 
 // made by tools/refusals.py: names
-const REFUSALS: [(Refusal, &str); 26] = [
+const REFUSALS: [(Refusal, &str); 27] = [
     (Refusal::Uneven, "UNEVEN"),
     (Refusal::Book, "BOOK"),
     (Refusal::Calendar, "CALENDAR"),
@@ -90,6 +92,7 @@ const REFUSALS: [(Refusal, &str); 26] = [
     (Refusal::Request, "REQUEST"),
     (Refusal::Buffer, "BUFFER"),
     (Refusal::Notplain, "NOTPLAIN"),
+    (Refusal::Batch, "BATCH"),
     (Refusal::Index, "INDEX"),
     (Refusal::Same, "SAME"),
     (Refusal::Full, "FULL"),
