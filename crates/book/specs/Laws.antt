@@ -1,0 +1,3 @@
+-- What is proved of the definitions beside this folder.
+pub mod Framing
+pub mod Counts

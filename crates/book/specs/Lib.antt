@@ -1,0 +1,5 @@
+pub mod Framing
+pub mod Book
+pub mod Inner
+pub mod Laws
+pub mod Sums
