@@ -1,7 +1,7 @@
 -- Request L4: which bytes are a night's book, and which requests stand in it.
 -- Assumes nothing.
-use Prim.Native.Nat.{ℕ, zero, suc, _+_}
-use mathlib.Core.List.{List, [], _∷_}
+use Prim.Native.Nat.{ℕ, zero, suc, _+_, _/_, _%_, _<_}
+use mathlib.Core.List.{List, [], _∷_, _++_}
 use lib.Dec.{leb}
 use lib.ListN.{length, take, drop, getD}
 use Rattle.refusal.specs.Answer.{Answer, given, refused, need, then, BATCH}
@@ -38,3 +38,20 @@ requestsFrom (suc left) s = orNone s (unlessCut s (requestsFrom left))
 
 unfoldable pub requestsIn : List ℕ → Answer (List (List ℕ))
 requestsIn bytes = requestsFrom MOST bytes
+
+-- ---- the bytes of a book of these requests
+unfoldable pub led : List ℕ → List ℕ
+led r = length r / 256 ∷ length r % 256 ∷ r
+
+unfoldable pub bytesOf : List (List ℕ) → List ℕ
+bytesOf [] = []
+bytesOf (r ∷ rs) = led r ++ bytesOf rs
+
+-- two bytes say the length of each
+pub data Sayable : List (List ℕ) → Type 0 where
+  no-requests : Sayable []
+  request : {r : List ℕ} {rs : List (List ℕ)} → length r < 65536 → Sayable rs → Sayable (r ∷ rs)
+
+pub data Bytes : List ℕ → Type 0 where
+  no-bytes : Bytes []
+  byte : {b : ℕ} {s : List ℕ} → b < 256 → Bytes s → Bytes (b ∷ s)

@@ -54,7 +54,7 @@ of bytes dates flags unadjusted answers =
     by (given rs) = answer (length rs) (booked rs 0 0 (lists (replicate dates 9) (replicate flags 9) (replicate unadjusted 9) (replicate answers 9)))
     by (refused n) = number n
 
-pub sums : _≡_ {A = List Sum}
+sums : _≡_ {A = List Sum}
     (of [] 2 2 2 1
     ∷ of (0 ∷ []) 2 2 2 4
     ∷ of (0 ∷ 5 ∷ 255 ∷ 0 ∷ 0 ∷ []) 2 2 2 4

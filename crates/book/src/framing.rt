@@ -7,7 +7,7 @@ ghost use Rattle.book.specs.Inner.Framed.{framed, Byte, SizeAt, endOf};
 
 // How many requests there are; or the refusal.
 pub(crate) enum Framed {
-    Whole(usize),
+    Whole(u32),
     Refused(u8),
 }
 
@@ -46,7 +46,7 @@ fn end_at(bytes: &[u8], at: usize) -> usize
 pub(crate) fn requests(bytes: &[u8]) -> Framed
     ensures { λ r. ⌜ r ≡ framed (requestsIn (now (bytes .entry))) ⌝ }
 {
-    let mut n: usize = 0;
+    let mut n: u32 = 0;
     let mut at: usize = 0;
     while at < bytes.len() {
         if n == 64 {

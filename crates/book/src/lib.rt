@@ -13,7 +13,7 @@ mod turns;
 
 // How many requests there were, refused ones among them; or the refusal of the whole call.
 pub enum Booked {
-    Answered(usize),
+    Answered(u32),
     Refused(u8),
 }
 
@@ -39,7 +39,7 @@ pub fn build(
         Framed::Refused(k) => return Booked::Refused(k),
         Framed::Whole(n) => n,
     };
-    if answers.len() / 4 < n {
+    if answers.len() / 4 < n as usize {
         return Booked::Refused(refusal::BATCH);
     }
     turns::take_turns(bytes, dates, flags, unadjusted, answers);

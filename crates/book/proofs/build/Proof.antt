@@ -27,6 +27,9 @@ returns-3 c = search booking
 enum-known-n : tie.Need-enum-known-n
 enum-known-n c = search needs
 
+cast-if3 : tie.Need-cast-if3
+cast-if3 c = search needs
+
 returns-4 : tie.Need-returns-4
 returns-4 c = search booking
 
@@ -64,6 +67,7 @@ build-spec =
     enum-known-k
     returns-3
     enum-known-n
+    cast-if3
     returns-4
     take-turns-requires
     same-length
