@@ -782,6 +782,55 @@ impl Schedule {
     }
 }
 
+/// A schedule of a book: paid dates, for each the date before adjustment, for each period whether it is regular, and the tries.
+#[derive(Clone, Debug, PartialEq, Eq)]
+pub struct Booked {
+    pub dates: Vec<Date>,
+    pub unadjusted: Vec<Date>,
+    pub regular: Vec<bool>,
+    pub tries: u32,
+}
+
+/// Builds up to 64 requests in one call, each in the room that those before it left: for each its schedule, or its refusal. A longer list,
+/// or a request whose length two bytes cannot say, is refused with `Refusal::Batch`.
+pub fn book(requests: &[&[u8]], room: usize) -> Answer<Vec<Answer<Booked>>> {
+    let mut whole = Vec::new();
+    for request in requests {
+        let size = u16::try_from(request.len()).map_err(|_| Refusal::Batch)?;
+        whole.extend_from_slice(&size.to_be_bytes());
+        whole.extend_from_slice(request);
+    }
+    let mut dates = vec![0u32; room];
+    let mut flags = vec![0u8; room];
+    let mut unadjusted = vec![0u32; room];
+    let mut answers = vec![0u32; 4 * requests.len()];
+    told(unsafe {
+        ffi::heronspan_book(
+            whole.as_ptr(),
+            whole.len(),
+            dates.as_mut_ptr(),
+            dates.len(),
+            flags.as_mut_ptr(),
+            flags.len(),
+            unadjusted.as_mut_ptr(),
+            unadjusted.len(),
+            answers.as_mut_ptr(),
+            answers.len(),
+        )
+    })?;
+    let schedule = |answer: &[u32]| {
+        let (start, end) = (answer[1] as usize, (answer[1] + answer[0]) as usize);
+        let given = |list: &[u32]| list[start..end].iter().map(|&n| Date(n)).collect();
+        told(-i64::from(answer[3])).map(|_| Booked {
+            dates: given(&dates),
+            unadjusted: given(&unadjusted),
+            regular: flags[start..end.saturating_sub(1).max(start)].iter().map(|&flag| flag == 1).collect(),
+            tries: answer[2],
+        })
+    };
+    Ok(answers.chunks(4).map(schedule).collect())
+}
+
 const CONVENTIONS: [Convention; 5] = [
     Convention::Unadjusted,
     Convention::Following,
