@@ -28,7 +28,7 @@ module _ (s old list : List ℕ) (r : Decoded) (d : Decodes (decoded s (length o
   unfolding closedIn
   part-is q n e =
       let h = held _ r q n (d .answer) e in
-      closed-part _ old list (h .asked) n (h .from) (d .list-after) (h .count) ∙ rw (h .from) refl
+      closed-part _ old list (h .asked) n (h .from) (d .list-after) (h .count) ∙ ap closedIn (sym (h .from))
 
   pub request-is : (q : Request) (n : ℕ) → r ≡ decoded-is.Asked q n → given q ≡ requestIn (decoded s (length old))
   unfolding requestIn
