@@ -252,8 +252,8 @@ fn a_book() {
     let dates = vec![day(2025, 6, 25), day(2025, 7, 20)];
     let pair = Booked { dates: dates.clone(), unadjusted: dates, regular: vec![true], tries: 1 };
     assert_eq!(book(&[], 0), Ok(vec![]));
-    assert_eq!(book(&[&two, &[], &one], 3), Ok(vec![Ok(pair), Err(Refusal::Request), Ok(single.clone())]));
-    assert_eq!(book(&[&two, &one], 2), Ok(vec![Err(Refusal::Room), Ok(single)]));
-    assert_eq!(book(&[&[]; 65], 0), Err(Refusal::Batch));
-    assert_eq!(book(&[&[0; 65536]], 0), Err(Refusal::Batch));
+    assert_eq!(book(&[&two[..], &[], &one], 3), Ok(vec![Ok(pair), Err(Refusal::Request), Ok(single.clone())]));
+    assert_eq!(book(&[&two[..], &one], 2), Ok(vec![Err(Refusal::Room), Ok(single)]));
+    assert_eq!(book(&[&[][..]; 65], 0), Err(Refusal::Batch));
+    assert_eq!(book(&[&[0; 65536][..]], 0), Err(Refusal::Batch));
 }
