@@ -5,5 +5,6 @@ pub mod Within
 pub mod Turns
 pub mod Joined
 pub mod InPlace
+pub mod Alone
 pub mod Split
 pub mod Demand
