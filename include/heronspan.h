@@ -46,6 +46,7 @@ enum {
     HERONSPAN_REQUEST = 17,         /* a number outside its list */
     HERONSPAN_BUFFER = 18,          /* the lent buffer is shorter than 20,000 bytes */
     HERONSPAN_NOTPLAIN = 19,        /* the coming date alone: a request that it does not answer */
+    HERONSPAN_BATCH = 20,           /* a book of over 64 requests, one cut short, or too few answer places */
     HERONSPAN_INDEX = 21,           /* an index that has not 601 places */
     HERONSPAN_SAME_DATE = 22,       /* adding a date that is closed already, or removing one that is not listed */
     HERONSPAN_FULL = 23,            /* a closed date more than 4,096 */
@@ -281,6 +282,27 @@ int64_t heronspan_build_bytes(const uint8_t *bytes, size_t bytes_len, uint32_t *
                               size_t flags_len, uint32_t *unadjusted, size_t unadjusted_len, uint32_t *answer,
                               size_t answer_len);
 
+/* Places of a request's answer in a book. */
+enum {
+    HERONSPAN_BOOK_COUNT = 0,  /* how many dates */
+    HERONSPAN_BOOK_START = 1,  /* the place of the first, from 0, in all three lists */
+    HERONSPAN_BOOK_TRIES = 2,  /* how many candidates were tried */
+    HERONSPAN_BOOK_NUMBER = 3, /* the refusal's number, or 0; the other three are 0 where it is refused */
+    HERONSPAN_BOOK_ANSWER = 4  /* how many places there are */
+};
+
+/* Builds a night's book: up to 64 requests to the very end of the bytes, each led by its length in two bytes, high byte first, which
+ * does not count itself. Answers how many requests there were. Each is built as heronspan_build_bytes builds it, in the room then left,
+ * and its schedule stands right behind the one before it, at one start in all three lists; the flag place of a schedule's last date
+ * keeps what it held. A refused request takes no room and stops nothing. `answers` has HERONSPAN_BOOK_ANSWER places for each request.
+ *
+ * Lists of dates, flags and unadjusted dates that are not equally long are HERONSPAN_UNEVEN; then more than 64 requests, a length or a
+ * body cut short, or too few places in `answers` are HERONSPAN_BATCH. Both leave every list as it was; else later places keep what
+ * they held. */
+int64_t heronspan_book(const uint8_t *bytes, size_t bytes_len, uint32_t *dates, size_t dates_len, uint8_t *flags,
+                       size_t flags_len, uint32_t *unadjusted, size_t unadjusted_len, uint32_t *answers,
+                       size_t answers_len);
+
 /* What heronspan_coming answers: 0 where there is no later date, else the day times 4 and one of these marks of the period that
  * ends there; HERONSPAN_DAY and HERONSPAN_MARK take the two apart. */
 enum {
@@ -442,6 +464,8 @@ static inline const char *heronspan_refusal_name(int64_t answer) {
         return "BUFFER";
     case -HERONSPAN_NOTPLAIN:
         return "NOTPLAIN";
+    case -HERONSPAN_BATCH:
+        return "BATCH";
     case -HERONSPAN_INDEX:
         return "INDEX";
     case -HERONSPAN_SAME_DATE:

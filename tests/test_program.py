@@ -40,6 +40,11 @@ def answer(data):
     return subprocess.run([PROGRAM], input=data, capture_output=True, check=True).stdout.decode()
 
 
+def book(*requests, end=b""):
+    whole = b"".join(len(data).to_bytes(2, "big") + data for data in requests) + end
+    return subprocess.run([PROGRAM, "--book"], input=whole, capture_output=True, check=True).stdout.decode()
+
+
 def request(*words):
     return subprocess.run([sys.executable, TOOL, *words], capture_output=True, check=True).stdout
 
@@ -249,6 +254,31 @@ class Ends(unittest.TestCase):
         self.assertEqual(done.stdout.decode(), EXAMPLE_TEXT)
         done = subprocess.run([PROGRAM, "/nowhere/at/all"], capture_output=True, check=False)
         self.assertEqual((done.returncode, done.stdout), (2, b""))
+
+
+class Books(unittest.TestCase):
+    def test_each_request(self):
+        one = request("2025-03-01", "2025-03-01", "1M")
+        self.assertEqual(book(EXAMPLE, b"", one, FULL), EXAMPLE_TEXT + "refused 17\n1 dates, 1 tries\n2025-03-01\n" + FULL_TEXT)
+
+    def test_no_request(self):
+        self.assertEqual(book(), "")
+
+    def test_refused(self):
+        self.assertEqual(book(end=b"\0"), "refused 20\n")
+        self.assertEqual(book(EXAMPLE, EXAMPLE, end=b"\0\1"), "refused 20\n")
+        self.assertEqual(book(*[b""] * 65), "refused 20\n")
+        self.assertEqual(book(*[b""] * 64), "refused 17\n" * 64)
+
+    def test_longest(self):
+        self.assertEqual(book(*[bytes(65535)] * 63, EXAMPLE), "refused 17\n" * 63 + EXAMPLE_TEXT)
+        self.assertEqual(book(*[bytes(65535)] * 64, end=b"\0"), "refused 20\n")
+
+    def test_each_with_its_own_4096(self):
+        daily = request("2022-01-01", "2033-03-19", "1D")
+        text = answer(daily)
+        self.assertTrue(text.startswith("4096 dates, "))
+        self.assertEqual(book(*[daily] * 64), text * 64)
 
 
 if __name__ == "__main__":

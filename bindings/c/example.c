@@ -121,6 +121,19 @@ int main(void) {
     printf("line %" PRIu32 ", ", line[0]);
     print_refusal("timed", read);
 
+    /* A book of two requests, one date and two, in room for three: the first is refused, as its last byte is missing. */
+    static const uint8_t night[] = {0,  22, 1,  0,   4, 0, 11, 71, 239, 2,  0,  4, 0, 11, 71, 239, 3,  0,   3, 77, 0,   1,  255, 0,
+                                    0,  27, 1,  0,   4, 0, 11, 72, 99,  2,  0,  4, 0, 11, 72, 105, 3,  0,   3, 77, 0,   3,  4,   0,
+                                    1,  3,  255, 0,  0};
+    uint32_t answers[2 * HERONSPAN_BOOK_ANSWER];
+    int64_t booked = heronspan_book(night, sizeof night, dates, 3, flags, 3, unadjusted, 3, answers, 8);
+    printf("book: %" PRId64 ", refused %" PRIu32 ", %" PRIu32 " dates from place %" PRIu32 ", the last ", booked,
+           answers[HERONSPAN_BOOK_NUMBER], answers[HERONSPAN_BOOK_ANSWER + HERONSPAN_BOOK_COUNT],
+           answers[HERONSPAN_BOOK_ANSWER + HERONSPAN_BOOK_START]);
+    print_day(dates[1]);
+    printf("\n");
+    print_refusal("one answer's places", heronspan_book(night, sizeof night, dates, 3, flags, 3, unadjusted, 3, answers, 7));
+
     /* 0 is no date: it is neither before nor after the real ones. */
     print_refusal("a missing date", heronspan_compare(0, effective));
     return same_names() ? 0 : 1;

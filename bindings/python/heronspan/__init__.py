@@ -17,11 +17,11 @@ from datetime import date
 from enum import IntEnum
 from fractions import Fraction
 from pathlib import Path
-from typing import Iterable, NamedTuple, Optional, Sequence
+from typing import Iterable, NamedTuple, Optional, Sequence, Union
 
 __all__ = [
-    "Basis", "Calendar", "Coming", "Convention", "Index", "Moved", "Order", "Parts", "Reader", "Refusal", "Refused", "Request", "Rule", "Schedule", "Sums",
-    "Unit", "WEEKENDS", "advance", "build",
+    "Basis", "Booked", "Calendar", "Coming", "Convention", "Index", "Moved", "Order", "Parts", "Reader", "Refusal", "Refused", "Request", "Rule",
+    "Schedule", "Sums", "Unit", "WEEKENDS", "advance", "book", "build",
     "build_bytes", "coming", "compare", "difference", "holidays", "holidays_file", "imm_code", "imm_date", "is_imm_code", "is_imm_date", "make", "month_end", "next_imm_code",
     "next_imm_date", "next_twentieth", "next_weekday", "nth_weekday", "previous_twentieth", "refusal_name", "times",
     "weekday", "year_fraction", "year_parts", "year_report",
@@ -49,6 +49,7 @@ class Refusal(IntEnum):
     REQUEST = 17  # a number outside its list
     BUFFER = 18  # the lent buffer is shorter than 20,000 bytes
     NOTPLAIN = 19  # the coming date alone: a request that it does not answer
+    BATCH = 20  # a book of over 64 requests, one cut short, or too few answer places
     INDEX = 21  # an index that has not 601 places
     SAME = 22  # adding a date that is closed already, or removing one that is not listed
     FULL = 23  # a closed date more than 4,096
@@ -163,6 +164,7 @@ _PARAMETERS = {
     "build": [*_request, *_days, *_flags, *_days, *_days],
     "coming": [*_request, _u32],
     "build_bytes": [*_bytes, *_days, *_flags, *_days, *_days],
+    "book": [*_bytes, *_days, *_flags, *_days, *_days],
     "year_fraction": [_u8, _u32, _u32],
     "year_parts": [_u8, _u32, _u32, *_days],
     "year_report": [*_days, *_days],
@@ -612,6 +614,43 @@ def coming(
 def build_bytes(request: bytes, room: int = MOST) -> Schedule:
     """Builds the schedule that the bytes of a request ask for."""
     return _built("build_bytes", room, request, len(request))
+
+
+# ---- a night's book
+
+REQUESTS = 64  # in a book, at the most
+
+
+@dataclass(frozen=True)
+class Booked:
+    """A schedule of a book: paid dates, for each the date before adjustment, for each period whether it is regular, and the tries."""
+
+    dates: list[date]
+    unadjusted: list[date]
+    regular: list[bool]
+    tries: int
+
+
+def book(requests: Sequence[bytes], room: int = REQUESTS * MOST) -> list[Union[Booked, Refusal]]:
+    """Builds up to 64 requests in one call, each in the room that those before it left: for each its schedule, or its refusal.
+
+    A longer list, or a request whose length two bytes cannot say, is refused with BATCH.
+    """
+    if any(len(request) > 65535 for request in requests):
+        raise Refused(Refusal.BATCH)
+    whole = b"".join(len(request).to_bytes(2, "big") + request for request in requests)
+    dates, flags, unadjusted, answers = (_u32 * room)(), (_u8 * room)(), (_u32 * room)(), (_u32 * (4 * len(requests)))()
+    _ask("book", whole, len(whole), dates, room, flags, room, unadjusted, room, answers, len(answers))
+    outcomes: list[Union[Booked, Refusal]] = []
+    for at in range(0, len(answers), 4):
+        count, start, tries, number = answers[at : at + 4]
+        end = start + count
+        if number:
+            outcomes.append(Refusal(number))
+        else:
+            outcomes.append(Booked([_date(n) for n in dates[start:end]], [_date(n) for n in unadjusted[start:end]],
+                                   [flag == 1 for flag in flags[start : end - 1]], tries))
+    return outcomes
 
 
 # ---- requests off the wire

@@ -349,6 +349,39 @@ class Schedules(Refusals):
         self.refused("REQUEST", h.build_bytes, b"")
         self.refused("ROOM", h.build_bytes, request, room=5)
 
+    def test_a_book(self) -> None:
+        one = bytes.fromhex("01 0004 000B47EF 02 0004 000B47EF 03 0003 4D0001 FF 0000")
+        two = bytes.fromhex("01 0004 000B4863 02 0004 000B4869 03 0003 4D0003 04 0001 03 FF 0000")
+        single = h.Booked(days("2025-03-01"), days("2025-03-01"), [], 1)
+        pair = h.Booked(days("2025-06-25", "2025-07-20"), days("2025-06-25", "2025-07-20"), [True], 1)
+        self.assertEqual(h.book([]), [])
+        self.assertEqual(h.book([b"", one, one[:-1], two, one]), [h.Refusal.REQUEST, single, h.Refusal.REQUEST, pair, single])
+        self.assertEqual(h.book([two, one], 3), [pair, single])
+        self.assertEqual(h.book([two, one], 2), [h.Refusal.ROOM, single])
+        self.assertEqual(h.book([one], 0), [h.Refusal.ROOM])
+        self.assertEqual(h.book([b""] * 64), [h.Refusal.REQUEST] * 64)
+        self.refused("BATCH", h.book, [b""] * 65)
+        self.refused("BATCH", h.book, [bytes(65536)])
+        self.assertEqual(h.book([bytes(65535), one]), [h.Refusal.REQUEST, single])
+
+    def test_lists_lent_to_a_book(self) -> None:
+        one = bytes.fromhex("0017 01 0004 000B47EF 02 0004 000B47EF 03 0003 4D0001 FF 0000")
+
+        def lent(whole: bytes, dates: int, flags: int, unadjusted: int, places: int) -> int:
+            return h._library.heronspan_book(whole, len(whole), days_lent, dates, flags_lent, flags, unadjusted_lent, unadjusted, answers, places)
+
+        days_lent, flags_lent = (ctypes.c_uint32 * 4)(*[7] * 4), (ctypes.c_uint8 * 4)(*[8] * 4)
+        unadjusted_lent, answers = (ctypes.c_uint32 * 4)(*[9] * 4), (ctypes.c_uint32 * 9)(*[6] * 9)
+        for lengths in ((2, 2, 1), (2, 1, 2), (1, 2, 2)):
+            self.assertEqual(lent(b"\0", *lengths, 0), -h.Refusal.UNEVEN, lengths)
+        for whole, places in ((b"\0", 8), (bytes.fromhex("0005 FF0000"), 8), (one + one + b"\0", 9), (one + one, 7), (one + one[:-1], 8)):
+            self.assertEqual(lent(whole, 2, 2, 2, places), -h.Refusal.BATCH, whole)
+        self.assertEqual(lent(b"", 2, 2, 2, 0), 0)
+        self.assertEqual((list(days_lent), list(flags_lent), list(unadjusted_lent), list(answers)), ([7] * 4, [8] * 4, [9] * 4, [6] * 9))
+        self.assertEqual(lent(one + one, 2, 2, 2, 8), 2)
+        self.assertEqual((list(days_lent), list(flags_lent), list(unadjusted_lent)), ([739311, 739311, 7, 7], [8] * 4, [739311, 739311, 9, 9]))
+        self.assertEqual(list(answers), [1, 0, 1, 0, 1, 1, 1, 0, 6])
+
     def test_the_coming_date(self) -> None:
         trade = (date(2025, 1, 15), date(2025, 12, 20), 3, Unit.MONTHS)
         self.assertEqual(h.coming(date(2025, 1, 14), *trade), h.Coming(date(2025, 1, 15), None))

@@ -179,6 +179,18 @@ extern "C" {
         answer: *mut u32,
         answer_len: usize,
     ) -> i64;
+    pub fn heronspan_book(
+        bytes: *const u8,
+        bytes_len: usize,
+        dates: *mut u32,
+        dates_len: usize,
+        flags: *mut u8,
+        flags_len: usize,
+        unadjusted: *mut u32,
+        unadjusted_len: usize,
+        answers: *mut u32,
+        answers_len: usize,
+    ) -> i64;
     pub fn heronspan_year_fraction(basis: u8, start: u32, end: u32) -> i64;
     pub fn heronspan_year_parts(basis: u8, start: u32, end: u32, parts: *mut u32, parts_len: usize) -> i64;
     pub fn heronspan_year_report(dates: *const u32, dates_len: usize, sums: *mut u32, sums_len: usize) -> i64;

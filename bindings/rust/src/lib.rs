@@ -52,6 +52,8 @@ pub enum Refusal {
     Buffer = 18,
     /// The coming date alone: a request that it does not answer.
     Notplain = 19,
+    /// A book of over 64 requests, one cut short, or too few answer places.
+    Batch = 20,
     /// An index that has not 601 places.
     Index = 21,
     /// Adding a date that is closed already, or removing one that is not listed.
@@ -70,7 +72,7 @@ pub enum Refusal {
 }
 
 // made by tools/refusals.py: names
-const REFUSALS: [(Refusal, &str); 26] = [
+const REFUSALS: [(Refusal, &str); 27] = [
     (Refusal::Uneven, "UNEVEN"),
     (Refusal::Book, "BOOK"),
     (Refusal::Calendar, "CALENDAR"),
@@ -90,6 +92,7 @@ const REFUSALS: [(Refusal, &str); 26] = [
     (Refusal::Request, "REQUEST"),
     (Refusal::Buffer, "BUFFER"),
     (Refusal::Notplain, "NOTPLAIN"),
+    (Refusal::Batch, "BATCH"),
     (Refusal::Index, "INDEX"),
     (Refusal::Same, "SAME"),
     (Refusal::Full, "FULL"),
@@ -802,6 +805,55 @@ impl Schedule {
             moved: record[6],
         })
     }
+}
+
+/// A schedule of a book: paid dates, for each the date before adjustment, for each period whether it is regular, and the tries.
+#[derive(Clone, Debug, PartialEq, Eq)]
+pub struct Booked {
+    pub dates: Vec<Date>,
+    pub unadjusted: Vec<Date>,
+    pub regular: Vec<bool>,
+    pub tries: u32,
+}
+
+/// Builds up to 64 requests in one call, each in the room that those before it left: for each its schedule, or its refusal. A longer list,
+/// or a request whose length two bytes cannot say, is refused with `Refusal::Batch`.
+pub fn book(requests: &[&[u8]], room: usize) -> Answer<Vec<Answer<Booked>>> {
+    let mut whole = Vec::new();
+    for request in requests {
+        let size = u16::try_from(request.len()).map_err(|_| Refusal::Batch)?;
+        whole.extend_from_slice(&size.to_be_bytes());
+        whole.extend_from_slice(request);
+    }
+    let mut dates = vec![0u32; room];
+    let mut flags = vec![0u8; room];
+    let mut unadjusted = vec![0u32; room];
+    let mut answers = vec![0u32; 4 * requests.len()];
+    told(unsafe {
+        ffi::heronspan_book(
+            whole.as_ptr(),
+            whole.len(),
+            dates.as_mut_ptr(),
+            dates.len(),
+            flags.as_mut_ptr(),
+            flags.len(),
+            unadjusted.as_mut_ptr(),
+            unadjusted.len(),
+            answers.as_mut_ptr(),
+            answers.len(),
+        )
+    })?;
+    let schedule = |answer: &[u32]| {
+        let (start, end) = (answer[1] as usize, (answer[1] + answer[0]) as usize);
+        let given = |list: &[u32]| list[start..end].iter().map(|&n| Date(n)).collect();
+        told(-i64::from(answer[3])).map(|_| Booked {
+            dates: given(&dates),
+            unadjusted: given(&unadjusted),
+            regular: flags[start..end.saturating_sub(1).max(start)].iter().map(|&flag| flag == 1).collect(),
+            tries: answer[2],
+        })
+    };
+    Ok(answers.chunks(4).map(schedule).collect())
 }
 
 const CONVENTIONS: [Convention; 5] = [

@@ -1,5 +1,5 @@
 //! Sums by hand of document 01, and what is refused.
-use heronspan::{imm, times, year_fraction, year_parts, year_report, Basis, Calendar, Coming, Convention, Date, DeskCalendar, Index, Moved, Parts, Refusal, Request, Rule, Schedule, Sums, Unit};
+use heronspan::{book, imm, times, year_fraction, year_parts, year_report, Basis, Booked, Calendar, Coming, Convention, Date, DeskCalendar, Index, Moved, Parts, Refusal, Request, Rule, Schedule, Sums, Unit};
 use std::cmp::Ordering;
 
 fn day(year: u32, month: u32, day: u32) -> Date {
@@ -246,4 +246,21 @@ fn request_bytes() {
     assert_eq!(built.tries, 6);
     assert_eq!(Schedule::from_bytes(&request, 5), Err(Refusal::Room));
     assert_eq!(Schedule::from_bytes(&request[..22], 6), Err(Refusal::Request));
+}
+
+#[test]
+fn a_book() {
+    let one = [0x01, 0, 4, 0x00, 0x0B, 0x47, 0xEF, 0x02, 0, 4, 0x00, 0x0B, 0x47, 0xEF, 0x03, 0, 3, b'M', 0, 1, 0xFF, 0, 0];
+    let two = [
+        0x01, 0, 4, 0x00, 0x0B, 0x48, 0x63, 0x02, 0, 4, 0x00, 0x0B, 0x48, 0x69, 0x03, 0, 3, b'M', 0, 3, 0x04, 0, 1, 3, 0xFF, 0, 0,
+    ];
+    let dates = vec![day(2025, 3, 1)];
+    let single = Booked { dates: dates.clone(), unadjusted: dates, regular: vec![], tries: 1 };
+    let dates = vec![day(2025, 6, 25), day(2025, 7, 20)];
+    let pair = Booked { dates: dates.clone(), unadjusted: dates, regular: vec![true], tries: 1 };
+    assert_eq!(book(&[], 0), Ok(vec![]));
+    assert_eq!(book(&[&two[..], &[], &one], 3), Ok(vec![Ok(pair), Err(Refusal::Request), Ok(single.clone())]));
+    assert_eq!(book(&[&two[..], &one], 2), Ok(vec![Err(Refusal::Room), Ok(single)]));
+    assert_eq!(book(&[&[][..]; 65], 0), Err(Refusal::Batch));
+    assert_eq!(book(&[&[0; 65536][..]], 0), Err(Refusal::Batch));
 }

@@ -5,6 +5,8 @@
 pub mod dates;
 // Schedules.
 pub mod builds;
+// A night's book.
+pub mod books;
 // Calendars.
 pub mod calendars;
 // Open days by an index.

@@ -3,3 +3,4 @@ pub mod Picks
 pub mod Round
 pub mod There
 pub mod Promise
+pub mod Held

@@ -1,20 +1,22 @@
 -- A law for each way through a build.
 -- Assumes nothing.
 use mathlib.Core.Path.{_≡_, refl, ap, sym, _∙_}
-use mathlib.Core.Bool.{Bool, true, false}
+use mathlib.Core.Bool.{Bool, true, false, not}
 use mathlib.Core.List.{List}
 use Prim.Native.Nat.{ℕ, zero, suc, _+_, _-_, _≤_, min}
 use native.Mathlib.Omega.{arith}
+use lib.Dec.{eqb}
 use lib.ListN.{length, take, drop, length-drop}
 use lib.Seq.{length-take-le}
-use Rattle.refusal.specs.Answer.{Answer, given, refused, then}
-use Rattle.refusal.specs.Laws.Answers.{then-given, then-refused, fails, holds}
-use borrow.Author.Tests.{eq-eqb, ne-eqb}
+use Rattle.refusal.specs.Answer.{Answer, given, refused, need, then, UNEVEN}
+use Rattle.refusal.specs.Laws.Answers.{then-given, then-refused, holds}
+use borrow.Author.Needs.{needs}
+use borrow.Author.Tests.{eq-eqb, ne-eqb, eqb-true}
 use Rattle.steps.specs.declared.Rule.{Rule}
 use Rattle.steps.specs.declared.Request.{Request}
 use Rattle.steps.specs.declared.Built.{Built}
 use Rattle.steps.specs.Rules.{isZero, isBackward, ruleInForce}
-use Rattle.steps.specs.Table.{firstRow, inputRows}
+use Rattle.steps.specs.Table.{numberOr, firstRow, inputRows}
 use Rattle.steps.specs.Laws.Table.{accepted}
 use Rattle.steps.specs.Generate.{zeroDates, backward, forward, generateBy, generate}
 use Rattle.steps.specs.Build.{refusedBuilt, admitted, answered, datesAfter, flagsAfter}
@@ -25,7 +27,7 @@ use Rattle.working.specs.declared.Generated.the-variants as generated-is
 use Rattle.working.specs.Step.{was-given, was-refused, was-kept}
 use Rattle.working.specs.Part.{Work, working, Part, Placed}
 use Rattle.finish.specs.Finishing.{Lent, completed}
-use Rattle.finish.specs.Laws.Lending.{lent-fits, completed-on}
+use Rattle.finish.specs.Laws.Lending.{lent-fits, completed-on, written-as}
 use Rattle.finish.specs.Paying.{PaidAlready}
 use Rattle.working.specs.Making.{Checked, piece, generated, Lies, Pays, Laid, Generates}
 
@@ -99,26 +101,50 @@ module _ (A : ℕ → Answer ℕ) (q : Request) (closed : List ℕ) (lent : ℕ)
       let f = l .fits in
       record { lies = record { some = l .some; fits = omega arith; dates-end = l .dates-end; flags-end = l .flags-end }; pays = d .pays }
 
--- ---- the whole build
-pub build-uneven : (q : Request) (closed : List ℕ) (dates flags unadjusted : ℕ) → (dates ≡ unadjusted → ⊥) → refused 1 ≡ entriesOf q closed dates flags unadjusted
-unfolding entriesOf
-build-uneven q closed dates flags unadjusted h = fails 1 _ _ (ne-eqb dates unadjusted h)
+-- ---- the number of the input's first refusal
+module _ (dates unadjusted row : ℕ) where
+  pub number-uneven : (dates ≡ unadjusted → ⊥) → UNEVEN ≡ numberOr (not (eqb dates unadjusted)) UNEVEN row
+  unfolding numberOr
+  number-uneven h = rw (ne-eqb dates unadjusted h) refl
 
-module _ (q : Request) (closed : List ℕ) (dates flags unadjusted : ℕ) (even : dates ≡ unadjusted) (number : ℕ) (p : number ≡ firstRow (inputRows q closed dates flags)) where
+  pub number-even : (number : ℕ) → dates ≡ unadjusted → number ≡ row → number ≡ numberOr (not (eqb dates unadjusted)) UNEVEN row
+  unfolding numberOr
+  number-even number e h = rw (eq-eqb dates unadjusted e) h
+
+no-number : (b : Bool) (row number : ℕ) → number ≡ numberOr (not b) UNEVEN row → number ≡ 0 → (b ≡ true) × (row ≡ 0)
+unfolding numberOr
+no-number true row number p e = (refl, sym p ∙ e)
+no-number false row number p e = absurd (let bad : ⊥ = omega (arith, p, e) in bad)
+
+-- ---- the whole build
+module _ (q : Request) (closed : List ℕ) (dates flags unadjusted number : ℕ) (p : number ≡ numberOr (not (eqb dates unadjusted)) UNEVEN (firstRow (inputRows q closed dates flags))) where
   pub build-refused : (number ≡ 0 → ⊥) → refused number ≡ entriesOf q closed dates flags unadjusted
-  unfolding entriesOf admitted
-  build-refused h = holds 1 _ _ _ (eq-eqb dates unadjusted even) (rw (sym p) (go number h))
+  unfolding entriesOf admitted numberOr need
+  build-refused h = by (eqb dates unadjusted) (firstRow (inputRows q closed dates flags)) p
     where
-      go : (n : ℕ) → (n ≡ 0 → ⊥) → refused n ≡ admitted n (entrySteps q closed) dates
-      go zero h = absurd (h refl)
-      go (suc n) h = refl
+      by : (b : Bool) (row : ℕ) → number ≡ numberOr (not b) UNEVEN row → refused number ≡ need UNEVEN b (admitted row (entrySteps q closed) dates)
+      by true zero e = absurd (h e)
+      by true (suc n) e = ap refused e
+      by false row e = ap refused e
 
   pub build-admitted : number ≡ 0 → entrySteps q closed dates ≡ entriesOf q closed dates flags unadjusted
   unfolding entriesOf admitted
-  build-admitted e = holds 1 _ _ _ (eq-eqb dates unadjusted even) (rw (sym p ∙ e) refl)
+  build-admitted e = let z = no-number _ _ number p e in holds 1 _ _ _ (z .0) (rw (z .1) refl)
 
-  pub build-checked : number ≡ 0 → Checked q closed × (dates ≡ flags)
-  build-checked e = (checked q closed dates flags (sym p ∙ e), accepted q closed dates flags (sym p ∙ e) .even)
+  pub build-checked : number ≡ 0 → Checked q closed × ((dates ≡ flags) × (dates ≡ unadjusted))
+  build-checked e =
+      let z = no-number _ _ number p e in
+      (checked q closed dates flags (z .1), (accepted q closed dates flags (z .1) .even, eqb-true dates unadjusted (z .0)))
+
+-- a build, in working lists of its own or lent ones
+module _ (q : Request) (closed dates flags unadjusted : List ℕ) (number : ℕ) (p : number ≡ numberOr (not (eqb (length dates) (length unadjusted))) UNEVEN (firstRow (inputRows q closed (length dates) (length flags)))) where
+  pub turned-away : (r : Built) → r ≡ refusedBuilt number → (number ≡ 0 → ⊥) → Written q (entriesOf q closed (length dates) (length flags) (length unadjusted)) r dates flags unadjusted dates flags unadjusted
+  turned-away r b h = refusal-written q _ number r dates flags unadjusted b (build-refused q closed (length dates) (length flags) (length unadjusted) number p h)
+
+  pub run-whole : (r : Built) (dates′ flags′ unadjusted′ : List ℕ) → number ≡ 0 → Written q (entrySteps q closed (length dates)) r dates flags unadjusted dates′ flags′ unadjusted′ → Written q (entriesOf q closed (length dates) (length flags) (length unadjusted)) r dates flags unadjusted dates′ flags′ unadjusted′
+  run-whole r dates′ flags′ unadjusted′ e w = written-as q _ _ r dates flags unadjusted dates′ flags′ unadjusted′ (build-admitted q closed (length dates) (length flags) (length unadjusted) number p e) w
+
+pub ruleset builds = (number-uneven, number-even, turned-away, run-whole, needs)
 
 -- the last steps on a part of the working lists that belongs together with what is lent
 pub finish-is : (q : Request) (closed : List ℕ) (seed tries : ℕ) (ds ds′ ps fs fs′ dates flags unadjusted : List ℕ) → ds ≡ ds′ → fs ≡ fs′ → Lent ds ps fs dates flags unadjusted → completed q closed seed tries ds fs (length ps) (length dates) (length flags) (length unadjusted) ≡ then (pairsOf q closed seed ds′) (mergedEntries fs′ tries)

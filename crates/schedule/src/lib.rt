@@ -1,11 +1,13 @@
 // Payment schedules, built in three working lists of 4,096 places.
 ghost use mathlib.Core.Path.{_≡_};
-ghost use mathlib.Core.Bool.{true};
+ghost use mathlib.Core.Bool.{true, not};
 ghost use Prim.Native.Nat.{_+_, _-_, _≤_, min};
+ghost use lib.Dec.{eqb};
 ghost use lib.ListN.{length, take, drop};
-ghost use Rattle.refusal.specs.Answer.{then};
+ghost use Rattle.refusal.specs.Answer.{then, UNEVEN};
 ghost use Rattle.calendar.specs.Open.{closedOk};
 ghost use Rattle.calendar.specs.Adjust.{adjusted};
+ghost use Rattle.steps.specs.Table.{numberOr, firstRow, inputRows};
 ghost use Rattle.steps.specs.Entries.{Written, pairsOf, mergedEntries, entrySteps, entriesOf};
 ghost use Rattle.working.specs.Part.{working, Part};
 ghost use Rattle.working.specs.Making.{Checked, Laid};
@@ -68,23 +70,22 @@ fn finish_part(
     )
 }
 
-// The steps of a request that has passed the checks, in working lists that hold anything. It has nine parameters, as the last steps.
+// The steps of a request that has passed the checks, in working lists that hold anything.
 fn run(
     q: Request,
     closed: &[u32],
-    room: usize,
-    work: &mut [u32],
-    paid: &mut [u32],
-    marks: &mut [u8],
+    work: &mut [u32; 4096],
+    paid: &mut [u32; 4096],
+    marks: &mut [u8; 4096],
     dates: &mut [u32],
     flags: &mut [u8],
     unadjusted: &mut [u32],
 ) -> Built
     requires { ⌜ Checked q (now closed) ⌝ }
-    requires { ⌜ Part room 0 (working (now work) (now marks)) × (length (now paid) ≡ 4096) × (room ≡ min (length (now dates)) 4096) ⌝ }
     requires { ⌜ (length (now dates) ≡ length (now flags)) × (length (now dates) ≡ length (now unadjusted)) ⌝ }
     ensures { λ r. ⌜ Written q (entrySteps q (now (closed .entry)) (length (now (dates .entry)))) r (now (dates .entry)) (now (flags .entry)) (now (unadjusted .entry)) (now (dates .exit)) (now (flags .exit)) (now (unadjusted .exit)) ⌝ }
 {
+    let room = least(dates.len(), 4096);
     let made = generating::generate(q, closed, room, work, paid, marks);
     match made {
         Generated::Refused(k) => steps::refused(k),
@@ -104,6 +105,16 @@ fn run(
     }
 }
 
+// The number of the first refusal that the input meets, with lists of these lengths lent; or 0.
+fn input_number(q: Request, closed: &[u32], dates: usize, flags: usize, unadjusted: usize) -> u8
+    ensures { λ r. ⌜ r ≡ numberOr (not (eqb dates unadjusted)) UNEVEN (firstRow (inputRows q (now (closed .entry)) dates flags)) ⌝ }
+{
+    if dates != unadjusted {
+        return refusal::UNEVEN;
+    }
+    checks::input_refusal(q, closed, dates, flags)
+}
+
 // Builds a schedule: the paid dates into the start of one lent list, the flags of the periods between them (1 regular) into the start
 // of another, the dates before adjustment into the start of the third. A refusal leaves all three as they were.
 pub fn build(
@@ -115,21 +126,16 @@ pub fn build(
 ) -> Built
     ensures { λ r. ⌜ Written q (entriesOf q (now (closed .entry)) (length (now (dates .entry))) (length (now (flags .entry))) (length (now (unadjusted .entry)))) r (now (dates .entry)) (now (flags .entry)) (now (unadjusted .entry)) (now (dates .exit)) (now (flags .exit)) (now (unadjusted .exit)) ⌝ }
 {
-    if dates.len() != unadjusted.len() {
-        return steps::refused(refusal::UNEVEN);
-    }
-    let number = checks::input_refusal(q, closed, dates.len(), flags.len());
+    let number = input_number(q, closed, dates.len(), flags.len(), unadjusted.len());
     if number != 0 {
         return steps::refused(number);
     }
-    let room = least(dates.len(), 4096);
     let mut work = [0u32; 4096];
     let mut paid = [0u32; 4096];
     let mut marks = [0u8; 4096];
     run(
         q,
         closed,
-        room,
         &mut work,
         &mut paid,
         &mut marks,
@@ -137,4 +143,24 @@ pub fn build(
         flags,
         unadjusted,
     )
+}
+
+// The same in three working lists that the caller lends, whatever they hold: for who builds many schedules.
+pub fn build_in(
+    q: Request,
+    closed: &[u32],
+    work: &mut [u32; 4096],
+    paid: &mut [u32; 4096],
+    marks: &mut [u8; 4096],
+    dates: &mut [u32],
+    flags: &mut [u8],
+    unadjusted: &mut [u32],
+) -> Built
+    ensures { λ r. ⌜ Written q (entriesOf q (now (closed .entry)) (length (now (dates .entry))) (length (now (flags .entry))) (length (now (unadjusted .entry)))) r (now (dates .entry)) (now (flags .entry)) (now (unadjusted .entry)) (now (dates .exit)) (now (flags .exit)) (now (unadjusted .exit)) ⌝ }
+{
+    let number = input_number(q, closed, dates.len(), flags.len(), unadjusted.len());
+    if number != 0 {
+        return steps::refused(number);
+    }
+    run(q, closed, work, paid, marks, dates, flags, unadjusted)
 }

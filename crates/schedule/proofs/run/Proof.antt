@@ -1,7 +1,5 @@
 -- `schedule::run` meets its contract.
 -- Assumes nothing.
-use mathlib.Core.Path.{_∙_}
-use native.Mathlib.Omega.{arith}
 use Rattle.finish.specs.Laws.Lending.{written-as}
 use Rattle.schedule.proofs.Building.{refusal-written, run-stop, run-on, run-laid}
 use borrow.Author.Needs.{needs}
@@ -11,12 +9,14 @@ use Rattle.schedule.proofs.run.Reads as reads
 use Rattle.schedule.proofs.run.Lts as lts
 use Rattle.schedule.proofs.finish_part.Reads as finish-part-reads
 use Rattle.schedule.proofs.generating.generate.Reads as generate-reads
+use Rattle.schedule.proofs.least.Reads as least-reads
 use Rattle.steps.proofs.refused.Reads as refused-reads
 
+least-requires : tie.Need-least-requires
+least-requires c κs = search needs
+
 generate-requires : tie.Need-generate-requires
-generate-requires c κs =
-    let start : tie.Start = search in
-    (start .pre .0, (start .pre .1 .0 .0, start .pre .1 .0 .1))
+generate-requires c κs = search needs
 
 enum-known-made : tie.Need-enum-known-made
 enum-known-made c = search needs
@@ -29,12 +29,22 @@ enum-known-made-2 c = search needs
 
 finish-part-requires : tie.Need-finish-part-requires
 finish-part-requires c κs =
+    let marks : tie.After-finish-part-arg3 = search in
+    let work : tie.After-finish-part-arg = search in
     let ready : tie.After-made2 = search in
     let made : tie.After-generate = search in
-    let lists : tie.After-slice-known3 = search in
+    let least : tie.After-least = search in
     let start : tie.Start = search in
     let p = start .pre in
-    ((p .0 .calendar, omega (arith, p .1 .0 .0 .work-size), omega (arith, p .1 .0 .0 .marks-size)), (run-laid _ _ _ _ _ _ _ (made .generate .ensures) (p .1 .0 .2) _ (ready .made2 .given .1), p .1 .1))
+    ((p .0 .calendar, work .finish-part-arg .given .0 .1, marks .finish-part-arg3 .given .0 .1), (run-laid _ _ _ _ _ _ _ (made .generate .ensures) (least .least .ensures) _ (ready .made2 .given .1), p .1))
+
+returns : tie.Need-returns
+returns c =
+    let refusal : tie.After-refused = search in
+    let stop : tie.After-made = search in
+    let made : tie.After-generate = search in
+    let least : tie.After-least = search in
+    refusal-written _ _ _ _ _ _ _ (refusal .refused .ensures) (run-stop _ _ _ _ _ _ _ (made .generate .ensures) (least .least .ensures) _ (stop .made .given .1))
 
 same-length : tie.Need-same-length
 same-length c = search needs
@@ -45,63 +55,26 @@ same-length-2 c = search needs
 same-length-3 : tie.Need-same-length-3
 same-length-3 c = search needs
 
-returns : tie.Need-returns
-returns c =
-    let refusal : tie.After-refused = search in
-    let stop : tie.After-made = search in
-    let made : tie.After-generate = search in
-    let lists : tie.After-slice-known3 = search in
-    let start : tie.Start = search in
-    refusal-written _ _ _ _ _ _ _ (refusal .refused .ensures) (run-stop _ _ _ _ _ _ _ (made .generate .ensures) (start .pre .1 .0 .2) _ (stop .made .given .1))
-
-same-length-4 : tie.Need-same-length-4
-same-length-4 c =
-    let later : tie.After-work2 = search in
-    let ready : tie.After-made2 = search in
-    let first : tie.After-work = search in
-    later .work2 .given ∙ first .work .given
-
-same-length-5 : tie.Need-same-length-5
-same-length-5 c = search needs
-
-same-length-6 : tie.Need-same-length-6
-same-length-6 c = search needs
-
-same-length-7 : tie.Need-same-length-7
-same-length-7 c = search needs
-
-same-length-8 : tie.Need-same-length-8
-same-length-8 c = search needs
-
-same-length-9 : tie.Need-same-length-9
-same-length-9 c = search needs
-
 returns-2 : tie.Need-returns-2
 returns-2 c =
     let finish : tie.After-finish-part = search in
     let ready : tie.After-made2 = search in
     let made : tie.After-generate = search in
-    let lists : tie.After-slice-known3 = search in
-    let start : tie.Start = search in
-    written-as _ _ _ _ _ _ _ _ _ _ (run-on _ _ _ _ _ _ _ (made .generate .ensures) (start .pre .1 .0 .2) _ (ready .made2 .given .1)) (finish .finish-part .ensures)
+    let least : tie.After-least = search in
+    written-as _ _ _ _ _ _ _ _ _ _ (run-on _ _ _ _ _ _ _ (made .generate .ensures) (least .least .ensures) _ (ready .made2 .given .1)) (finish .finish-part .ensures)
 
 pub run-spec : {M : Type 1} → statement M
 run-spec =
     tie.close
     (tie.spec
+    least-requires
     generate-requires
     enum-known-made
     refused-requires
     enum-known-made-2
     finish-part-requires
+    returns
     same-length
     same-length-2
     same-length-3
-    returns
-    same-length-4
-    same-length-5
-    same-length-6
-    same-length-7
-    same-length-8
-    same-length-9
     returns-2)

@@ -1,0 +1,4 @@
+pub mod Framings
+pub mod Calling
+pub mod Turning
+pub mod Booking

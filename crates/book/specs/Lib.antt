@@ -1,0 +1,6 @@
+pub mod Framing
+pub mod Book
+pub mod Places
+pub mod Inner
+pub mod Laws
+pub mod Sums

@@ -1,0 +1,2 @@
+-- What is proved of the definitions beside this folder.
+pub mod Telling
