@@ -77,13 +77,13 @@ def by_single_calls(whole, lengths, places, lists):
     if requests is None or places // 4 < len(requests):
         return -20, []
     dates, flags, unadjusted, answers = lists
-    start, numbers, record = 0, [], (ctypes.c_uint32 * 6)()
+    start, numbers, record = 0, [], (ctypes.c_uint32 * 7)()
     for i, request in enumerate(requests):
         room = lengths[0] - start
         count = LIBRARY.heronspan_build_bytes(
             request, len(request), ctypes.cast(ctypes.byref(dates, 4 * start), ctypes.POINTER(ctypes.c_uint32)), room,
             ctypes.cast(ctypes.byref(flags, start), ctypes.POINTER(ctypes.c_uint8)), room,
-            ctypes.cast(ctypes.byref(unadjusted, 4 * start), ctypes.POINTER(ctypes.c_uint32)), room, record, 6)
+            ctypes.cast(ctypes.byref(unadjusted, 4 * start), ctypes.POINTER(ctypes.c_uint32)), room, record, 7)
         answers[4 * i : 4 * i + 4] = [0, 0, 0, -count] if count < 0 else [count, start, record[2], 0]
         numbers.append(max(-count, 0))
         start += max(count, 0)
