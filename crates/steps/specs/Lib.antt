@@ -8,3 +8,4 @@ pub mod Finish
 pub mod Build
 pub mod Entries
 pub mod Sure
+pub mod Same

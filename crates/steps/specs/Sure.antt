@@ -10,5 +10,8 @@ pub record Surely (A : ℕ → Answer ℕ) (s : Sure) : Type 0 where
   pub so : (s .paid ≡ 0 → ⊥) → A (s .day) ≡ given (s .paid)
 
 -- nothing is claimed of no day
-pub none-sure : (A : ℕ → Answer ℕ) → Surely A (record { day = 0; paid = 0 })
+abbrev pub unsure : Sure
+unsure = record { day = 0; paid = 0 }
+
+pub none-sure : (A : ℕ → Answer ℕ) → Surely A unsure
 none-sure A = record { so = λ h. absurd (h refl) }
