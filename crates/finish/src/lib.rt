@@ -33,7 +33,8 @@ pub struct Paid {
     pub to: usize,
 }
 
-// What is known of the generated dates: the seed, the tries, which of them are paid, and a day by the convention of the last date.
+// What is known of the generated dates: the seed, the tries, which of them are paid, and what a day adjusts to by the convention of
+// the last date.
 pub struct Made {
     pub seed: u32,
     pub tries: u32,

@@ -1,7 +1,7 @@
--- What the last date of a forward build leaves: the list, and a day that is known by the convention of the last date.
+-- What the last date of a forward build leaves: the list, and what a day adjusts to by the convention of the last date.
 -- Assumes nothing.
 use Prim.Native.Nat.{ℕ}
-use mathlib.Core.Path.{_≡_, refl}
+use mathlib.Core.Path.{_≡_}
 use mathlib.Core.Bool.{true, false}
 use mathlib.Core.List.{List}
 use Rattle.refusal.specs.Answer.{Answer, given, refused, then}
@@ -12,7 +12,7 @@ use Rattle.steps.specs.Generate.{Lists, closing}
 use Rattle.steps.specs.Same.{sameConvention}
 use Rattle.steps.specs.Sure.{Surely}
 use Rattle.working.specs.declared.Tip.{Tip}
-use Rattle.working.specs.Step.{Gives, Step, stops, goes-on}
+use Rattle.working.specs.Step.{Gives, Step, stops}
 use Rattle.working.specs.Part.{Work, Placed, held}
 use Rattle.working.specs.Turning.{Ahead}
 use Rattle.forwards.specs.declared.closing.Closing.{Closing}

@@ -28,7 +28,7 @@ use working::adds;
 use working::adds::Added;
 use working::lists;
 
-// How many dates there are then, and a day that may be known by the convention of the last date.
+// How many dates there are then, and what a day adjusts to by the convention of the last date.
 enum Closing {
     Ready { n: usize, last: Sure },
     Refused(u8),

@@ -56,7 +56,7 @@ pub record Pays (A : ℕ → Answer ℕ) (w : Work) (paid : List ℕ) (p : Piece
   pub size : length paid ≡ 4096
   pub so : each A (take (p .beyond - p .known) (drop (p .known) (take (p .n) (drop (p .from) (w .days))))) ≡ given (take (p .beyond - p .known) (drop (p .known) (take (p .n) (drop (p .from) paid))))
 
--- with what is known by the convention, and by that of the last date
+-- it lies within the lists, and what it says is so: of the paid dates by the convention, of a day by that of the last date
 pub record Laid (q : Request) (closed : List ℕ) (room : ℕ) (w : Work) (paid : List ℕ) (p : Piece) : Type 0 where
   pub lies : Lies room p
   pub pays : Pays (adjusted (q .mask) closed (q .convention)) w paid p

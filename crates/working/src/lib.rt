@@ -50,8 +50,8 @@ pub enum Filled {
 }
 
 // A part of the working lists: n dates from a place on, and the flags between them from another place on; with the tries and the seed.
-// Those from the `known`-th up to the `beyond`-th have their paid dates beside them. `last` may be known by the convention of the last
-// date.
+// Those from the `known`-th up to the `beyond`-th have their paid dates beside them. `last` says what a day adjusts to by the
+// convention of the last date.
 pub struct Piece {
     pub from: usize,
     pub marked: usize,
