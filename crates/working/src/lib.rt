@@ -4,6 +4,7 @@
 use calendar::Convention;
 use steps::Pace;
 use steps::Seed;
+use steps::Sure;
 
 // The working lists: dates and marks are put into them.
 pub mod lists;
@@ -26,6 +27,12 @@ pub struct Course {
     pub pace: Pace,
     pub seed: Seed,
     pub exit: u32,
+}
+
+// How many dates there are before a loop, and what one of them is known to adjust to.
+pub struct Begin {
+    pub n: usize,
+    pub sure: Sure,
 }
 
 // How many dates there are, from which on each has its paid date beside it, and the newest date's adjusted date where it is known,
