@@ -78,7 +78,8 @@ fn first_tip(
 {
     let n = begin.n;
     let sure = begin.sure;
-    let front = first_front(lists::newest(back, n, work), sure, adjusting, closed);
+    let newest = lists::newest(back, n, work);
+    let front = first_front(newest, sure, adjusting, closed);
     if front == 0 {
         return Tip { n, start: n, front };
     }
