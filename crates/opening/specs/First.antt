@@ -14,9 +14,8 @@ use Rattle.steps.specs.declared.Sure.{Sure}
 use Rattle.steps.specs.Sure.{Surely}
 use Rattle.working.specs.declared.Begin.{Begin}
 use Rattle.working.specs.declared.Filled.{Filled}
-use Rattle.working.specs.declared.Filled.the-variants as filled-is
 use Rattle.working.specs.Step.{Gives, Step, seen, Kept, gives, refuses, stops, goes-on}
-use Rattle.working.specs.Part.{Work, Placed, held, filled, Filling}
+use Rattle.working.specs.Part.{Work, Placed, held, filled}
 use Rattle.opening.specs.declared.first.First.{First}
 use Rattle.opening.specs.declared.first.First.the-variants.{Ready, Refused}
 

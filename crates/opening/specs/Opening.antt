@@ -30,16 +30,6 @@ abbrev pub Opens : (Premise : ℕ → Work → Type 0) (room : ℕ) (does : List
 Opens Premise room does n w r w′ =
     Step (Premise n w) (opening w′) (λ o. Placed room (o .0) w′) (does (held false n w)) (openedBy r)
 
--- ---- after such a step
-module _ {A D B P : Type 0} {view : ℕ × ℕ → A} {Keeps : ℕ × ℕ → Type 0} {view′ : D → B} {Keeps′ : D → Type 0} {o : Answer A} (f : A → Answer B) (r : Opening) {r′ : Answer D} (s : Step P view Keeps o (openedBy r)) where
-  pub opened-stops : (k : ℕ) → r ≡ Refused k → P → r′ ≡ refused k → Gives view′ Keeps′ (then o f) r′
-  unfolding openedBy
-  opened-stops k e p e′ = stops f (s .run p) k (rw e) e′
-
-  pub opened-on : (n seed : ℕ) → r ≡ Ready n seed → P → (Keeps (n, seed) → Gives view′ Keeps′ (f (view (n, seed))) r′) → Gives view′ Keeps′ (then o f) r′
-  unfolding openedBy
-  opened-on n seed e p h = goes-on f (s .run p) (n, seed) (rw e) h
-
 pub opened-is-refused : (k : ℕ) → openedBy (Refused k) ≡ refused k
 unfolding openedBy
 opened-is-refused k = refl
@@ -48,7 +38,7 @@ pub opened-ready : {room n seed : ℕ} {w : Work} → Placed room n w → Gives 
 unfolding openedBy
 opened-ready {n = n} {seed = seed} p = gives (n, seed) refl p
 
-pub ruleset opens = (opened-stops, opened-on, opened-is-refused, opened-ready)
+pub ruleset opens = (opened-is-refused, opened-ready)
 
 -- ---- the first two dates
 -- how many dates there are then, what one of them is known to adjust to, and the seed

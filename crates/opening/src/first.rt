@@ -26,6 +26,7 @@ pub(crate) enum First {
     Refused(u8),
 }
 
+// What was put, with what one of the dates is known to adjust to.
 fn with_sure(put: Filled, sure: Sure) -> First
     ensures { λ r. ⌜ first r ≡ seen (beginWith sure) (filled put) ⌝ }
 {

@@ -48,7 +48,7 @@ fn first_front(newest: u32, sure: Sure, adjusting: Adjusting, closed: &[u32]) ->
     }
 }
 
-// Of n dates the newest is put beside its adjusted date where that is known without a search. From which on they are paid.
+// The newest of n dates gets its paid date beside it where it is the sure one. The answer is from which on the dates are paid.
 fn pay_sure(back: bool, n: usize, sure: Sure, work: &[u32], paid: &mut [u32]) -> usize
     ensures { λ r. ⌜ ((A : ℕ → Answer ℕ) → Surely A sure → Sized n (now (work .entry)) (now (paid .entry)) → Paid A back r n (now (work .entry)) (now (paid .exit))) ⌝ }
 {
@@ -65,7 +65,7 @@ fn pay_sure(back: bool, n: usize, sure: Sure, work: &[u32], paid: &mut [u32]) ->
     n - 1
 }
 
-// What is known of the dates that are there: the newest is put beside its adjusted date, and the one before it where that is known.
+// What is known of the dates that are there. The newest gets its paid date beside it, and so does the one before it where that is sure.
 fn first_tip(
     back: bool,
     begin: Begin,
