@@ -2,15 +2,16 @@
 ghost use mathlib.Core.Path.{_≡_};
 ghost use mathlib.Core.Bool.{true};
 ghost use lib.ListN.{length};
-ghost use Rattle.calendar.specs.Adjust.{adjusted};
 ghost use Rattle.steps.specs.Rules.{paceOf};
 ghost use Rattle.steps.specs.Generate.{backwardFrom, backward};
 ghost use Rattle.working.specs.Part.{working, Begun, held};
 ghost use Rattle.working.specs.Making.{Blank, Makes};
 use steps::Pace;
 use steps::Request;
+use steps::Sure;
 use steps::seeds;
 use working::Adjusting;
+use working::Begin;
 use working::Course;
 use working::Filled;
 use working::Generated;
@@ -35,7 +36,7 @@ fn backward_from(
     paid: &mut [u32],
     marks: &mut [u8],
 ) -> Generated
-    ensures { λ r. ⌜ Makes ((pace ≡ paceOf (q .tenor)) × (Begun (now (closed .entry)) room n (working (now (work .entry)) (now (marks .entry))) × (length (now (paid .entry)) ≡ 4096))) (adjusted (q .mask) (now (closed .entry)) (q .convention)) room (backwardFrom q (now (closed .entry)) room (held true n (working (now (work .entry)) (now (marks .entry))))) r (working (now (work .exit)) (now (marks .exit))) (now (paid .exit)) ⌝ }
+    ensures { λ r. ⌜ Makes ((pace ≡ paceOf (q .tenor)) × (Begun (now (closed .entry)) room n (working (now (work .entry)) (now (marks .entry))) × (length (now (paid .entry)) ≡ 4096))) q (now (closed .entry)) room (backwardFrom q (now (closed .entry)) room (held true n (working (now (work .entry)) (now (marks .entry))))) r (working (now (work .exit)) (now (marks .exit))) (now (paid .exit)) ⌝ }
 {
     let convention = q.convention;
     let day = seeds::anchor_or(q.penultimate.day, q.termination.day);
@@ -49,7 +50,11 @@ fn backward_from(
         convention,
         mask: q.mask,
     };
-    let walked = walks::walk(course, room, adjusting, closed, n, work, paid, marks);
+    let begin = Begin {
+        n,
+        sure: Sure::NONE,
+    };
+    let walked = walks::walk(course, room, adjusting, closed, begin, work, paid, marks);
     match walked {
         Walked::Refused(k) => Generated::Refused(k),
         Walked::Ready { tip, tries } => {
@@ -68,7 +73,7 @@ pub fn backward(
     paid: &mut [u32],
     marks: &mut [u8],
 ) -> Generated
-    ensures { λ r. ⌜ Makes (Blank q (now (closed .entry)) room (working (now (work .entry)) (now (marks .entry))) (now (paid .entry))) (adjusted (q .mask) (now (closed .entry)) (q .convention)) room (backward q (now (closed .entry)) room) r (working (now (work .exit)) (now (marks .exit))) (now (paid .exit)) ⌝ }
+    ensures { λ r. ⌜ Makes (Blank q (now (closed .entry)) room (working (now (work .entry)) (now (marks .entry))) (now (paid .entry))) q (now (closed .entry)) room (backward q (now (closed .entry)) room) r (working (now (work .exit)) (now (marks .exit))) (now (paid .exit)) ⌝ }
 {
     let tenor = q.tenor;
     let pace = candidates::pace_of(tenor);

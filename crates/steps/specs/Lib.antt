@@ -7,3 +7,4 @@ pub mod Generate
 pub mod Finish
 pub mod Build
 pub mod Entries
+pub mod Inner
