@@ -118,7 +118,12 @@ fn pay_unpaid(
     let end = middle_end(work.len());
     let early = moving::pay_between(work, paid, 1, known.from, what, mask, closed);
     match early {
-        Done::Whole => moving::pay_between(work, paid, known.to, end, what, mask, closed),
+        Done::Whole => {
+            if known.to == end {
+                return Done::Whole;
+            }
+            moving::pay_between(work, paid, known.to, end, what, mask, closed)
+        }
         Done::Refused(k) => Done::Refused(k),
     }
 }
