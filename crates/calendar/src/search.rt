@@ -174,11 +174,7 @@ pub fn adjust_near(day: u32, near: Near, convention: Convention, mask: u8, close
                     near: here,
                 };
             }
-            measure(
-                day,
-                search_near(here, day, convention, mask, closed),
-                here,
-            )
+            measure(day, search_near(here, day, convention, mask, closed), here)
         }
     }
 }

@@ -8,13 +8,18 @@ use mathlib.Core.List.{List, [], _∷_, _++_}
 use mathlib.Core.Logic.{_⊎_, ⊎-elim, inl, inr}
 use Prim.Native.Nat.{ℕ, zero, suc, _+_, _-_, _≤_, _<_, min, max}
 use native.Mathlib.Omega.{arith}
-use lib.ListN.{length, take, drop, length-drop}
+use lib.ListN.{length, getD, set, take, drop, length-drop}
 use lib.Dec.{eqb}
 use lib.Seq.{drop-drop, drop-at, take-at, take-take, take-nil, drop-nil, length-take-le}
 use borrow.Author.Needs.{needs}
 use borrow.Author.Tests.{eq-eqb, ne-eqb, eqb-true}
 use Rattle.refusal.specs.Answer.{Answer, given, refused, then}
-use Rattle.refusal.specs.Laws.Answers.{then-stepped, one-given}
+use Rattle.refusal.specs.Laws.Answers.{then-given, then-refused, then-stepped, one-given}
+use Rattle.date.specs.declared.Date.{Date}
+use Rattle.date.specs.declared.Dated.{Dated}
+use Rattle.date.specs.declared.Dated.the-variants as dated-is
+use Rattle.date.specs.Date.{dated}
+use Rattle.date.specs.Laws.Made.{given-day, refused-day}
 use Rattle.calendar.specs.declared.Convention.{Convention}
 use Rattle.calendar.specs.declared.Decided.{Decided}
 use Rattle.calendar.specs.declared.Decided.the-variants as decided-is
@@ -38,7 +43,7 @@ use Rattle.finish.specs.declared.moving.Done.{Done}
 use Rattle.finish.specs.declared.moving.Done.the-variants.{Whole, Refused}
 use Rattle.finish.specs.Moving.{done, paired}
 use Rattle.finish.specs.Paying.{payBetween, PaidAlready, Narrowed, FirstPaid, LastPaid, LastKept, paidIf, stillPaid, payLastOf, payLast, payMiddle, paying}
-use Rattle.finish.specs.Laws.Paying.{paid-stays, pay-around, paying-is}
+use Rattle.finish.specs.Laws.Paying.{pay-one, paid-stays, pay-around, paying-is}
 use Rattle.finish.proofs.Moves.{done-refused, done-on}
 
 -- ---- which of the middle dates are paid
@@ -53,6 +58,21 @@ narrowed-none n last known l = record { first = omega arith; order = omega arith
 pub none-paid : (f : ℕ → Answer ℕ) (a : ℕ) (ds ps : List ℕ) → PaidAlready f a a ds ps
 unfolding each
 none-paid f a ds ps = let z : a - a ≡ 0 = omega arith in record { so = rw z refl }
+
+-- and nothing is to be filled in
+pub pays-none : (f : ℕ → Answer ℕ) (a b : ℕ) (ds ps : List ℕ) → a ≡ b → b ≤ length ds → length ds ≡ length ps → done Whole ps ≡ payBetween f a b ds ps
+unfolding done
+pays-none f a b ds ps e h even = rw (← e) (sym (paid-stays f ds ps a a a (omega arith) (omega arith) (omega (arith, e, h)) even (none-paid f a ds ps)))
+
+-- ---- one date
+module _ (f : ℕ → Answer ℕ) (at : ℕ) (ds ps : List ℕ) (h : at < length ds) (even : length ds ≡ length ps) (next : Dated) (p : dated next ≡ f (getD ds at 0)) where
+  pub one-moved : (d : Date) → next ≡ dated-is.Day d → done Whole (set ps at (d .day)) ≡ payBetween f at (at + 1) ds ps
+  unfolding done
+  one-moved d e = sym (pay-one f ds ps at h even ∙ sym (then-given _ (d .day) _ _ (given-day next d _ p e) refl))
+
+  pub one-refused : (n : ℕ) (ps′ : List ℕ) → next ≡ dated-is.Refused n → done (Refused n) ps′ ≡ payBetween f at (at + 1) ds ps
+  unfolding done
+  one-refused n ps′ e = sym (pay-one f ds ps at h even ∙ sym (then-refused _ n _ (refused-day next n _ p e)))
 
 -- some of those that are paid
 module _ (f : ℕ → Answer ℕ) where

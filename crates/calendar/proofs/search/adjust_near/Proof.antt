@@ -42,9 +42,9 @@ measure-requires c κs = search needs
 returns-2 : tie.Need-returns-2
 unfolding adjusted byConvention
 returns-2 c = λ ok m. record {
-      says = rw (c .before .enum-told .given .1) (c .stay .ensures ∙ ap (movedFrom _) (span-need _));
-      known = m;
-    }
+  says = rw (c .before .enum-told .given .1) (c .stay .ensures ∙ ap (movedFrom _) (span-need _));
+  known = m;
+}
 
 returns-3 : tie.Need-returns-3
 returns-3 c =
