@@ -1,12 +1,12 @@
 // The last dates of a backward build: the first date where the loop ended at it, and the effective date.
 ghost use mathlib.Core.Bool.{true};
-ghost use Rattle.calendar.specs.Adjust.{adjusted};
 ghost use Rattle.steps.specs.Generate.{ended, backwardEnd};
 ghost use Rattle.working.specs.Part.{working, held};
 ghost use Rattle.working.specs.Turning.{Looped};
 ghost use Rattle.working.specs.Adding.{Adds};
 ghost use Rattle.working.specs.Making.{Makes};
 use steps::Request;
+use steps::Sure;
 use working::Adjusting;
 use working::Generated;
 use working::Piece;
@@ -71,7 +71,7 @@ pub(crate) fn backward_end(
     paid: &mut [u32],
     marks: &mut [u8],
 ) -> Generated
-    ensures { λ r. ⌜ Makes (Looped (q .mask) (now (closed .entry)) (q .convention) true room (working (now (work .entry)) (now (marks .entry))) (now (paid .entry)) tip) (adjusted (q .mask) (now (closed .entry)) (q .convention)) room (backwardEnd q (now (closed .entry)) room (round .tries) (round .seed) (held true (tip .n) (working (now (work .entry)) (now (marks .entry))))) r (working (now (work .exit)) (now (marks .exit))) (now (paid .exit)) ⌝ }
+    ensures { λ r. ⌜ Makes (Looped (q .mask) (now (closed .entry)) (q .convention) true room (working (now (work .entry)) (now (marks .entry))) (now (paid .entry)) tip) q (now (closed .entry)) room (backwardEnd q (now (closed .entry)) room (round .tries) (round .seed) (held true (tip .n) (working (now (work .entry)) (now (marks .entry))))) r (working (now (work .exit)) (now (marks .exit))) (now (paid .exit)) ⌝ }
 {
     let last = match end(q, closed, tip, room, work, paid, marks) {
         Added::Refused(k) => return Generated::Refused(k),
@@ -86,5 +86,6 @@ pub(crate) fn backward_end(
         beyond: lists::surplus(last.n, last.start),
         tries: round.tries,
         seed: round.seed,
+        last: Sure::NONE,
     })
 }

@@ -2,7 +2,6 @@
 ghost use mathlib.Core.Path.{_≡_};
 ghost use mathlib.Core.Bool.{true};
 ghost use lib.ListN.{length};
-ghost use Rattle.calendar.specs.Adjust.{adjusted};
 ghost use Rattle.steps.specs.Rules.{paceOf};
 ghost use Rattle.steps.specs.Generate.{backwardFrom, backward};
 ghost use Rattle.working.specs.Part.{working, Begun, held};
@@ -35,7 +34,7 @@ fn backward_from(
     paid: &mut [u32],
     marks: &mut [u8],
 ) -> Generated
-    ensures { λ r. ⌜ Makes ((pace ≡ paceOf (q .tenor)) × (Begun (now (closed .entry)) room n (working (now (work .entry)) (now (marks .entry))) × (length (now (paid .entry)) ≡ 4096))) (adjusted (q .mask) (now (closed .entry)) (q .convention)) room (backwardFrom q (now (closed .entry)) room (held true n (working (now (work .entry)) (now (marks .entry))))) r (working (now (work .exit)) (now (marks .exit))) (now (paid .exit)) ⌝ }
+    ensures { λ r. ⌜ Makes ((pace ≡ paceOf (q .tenor)) × (Begun (now (closed .entry)) room n (working (now (work .entry)) (now (marks .entry))) × (length (now (paid .entry)) ≡ 4096))) q (now (closed .entry)) room (backwardFrom q (now (closed .entry)) room (held true n (working (now (work .entry)) (now (marks .entry))))) r (working (now (work .exit)) (now (marks .exit))) (now (paid .exit)) ⌝ }
 {
     let convention = q.convention;
     let day = seeds::anchor_or(q.penultimate.day, q.termination.day);
@@ -68,7 +67,7 @@ pub fn backward(
     paid: &mut [u32],
     marks: &mut [u8],
 ) -> Generated
-    ensures { λ r. ⌜ Makes (Blank q (now (closed .entry)) room (working (now (work .entry)) (now (marks .entry))) (now (paid .entry))) (adjusted (q .mask) (now (closed .entry)) (q .convention)) room (backward q (now (closed .entry)) room) r (working (now (work .exit)) (now (marks .exit))) (now (paid .exit)) ⌝ }
+    ensures { λ r. ⌜ Makes (Blank q (now (closed .entry)) room (working (now (work .entry)) (now (marks .entry))) (now (paid .entry))) q (now (closed .entry)) room (backward q (now (closed .entry)) room) r (working (now (work .exit)) (now (marks .exit))) (now (paid .exit)) ⌝ }
 {
     let tenor = q.tenor;
     let pace = candidates::pace_of(tenor);

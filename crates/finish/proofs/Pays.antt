@@ -10,7 +10,7 @@ use Prim.Native.Nat.{ℕ, zero, suc, _+_, _-_, _≤_, _<_, min, max}
 use native.Mathlib.Omega.{arith}
 use lib.ListN.{length, getD, set, take, drop, length-drop}
 use lib.Dec.{eqb}
-use lib.Seq.{drop-drop, drop-at, take-at, take-take, take-nil, drop-nil, length-take-le}
+use lib.Seq.{drop-cons, set-split, drop-drop, drop-at, take-at, take-take, take-nil, drop-nil, length-take-le}
 use borrow.Author.Needs.{needs}
 use borrow.Author.Tests.{eq-eqb, ne-eqb, eqb-true}
 use Rattle.refusal.specs.Answer.{Answer, given, refused, then}
@@ -34,15 +34,18 @@ use Rattle.steps.specs.declared.Rule.the-variants.{ThirdWednesday, ThirdWednesd
 use Rattle.steps.proofs.Rule.{the-type}
 use Rattle.steps.specs.Laws.Rules.{agree, keep, keysOf, tagsAre, told}
 use Rattle.steps.specs.declared.Request.{Request}
-use Rattle.steps.specs.Rules.{rules, ruleNumber, oneOf, ruleInForce, isOldCDS}
+use Rattle.steps.specs.declared.Sure.{Sure}
+use Rattle.steps.specs.Rules.{rules, ruleNumber, oneOf, ruleInForce, isCredit, isOldCDS}
 use Rattle.steps.specs.Finish.{each, moved, onLast, unless, firstMove, lastMove, middleMove, seedAtEnd, adjustments, wednesdaysBy, wednesdays}
 use Rattle.steps.specs.Entries.{Pairs, pairsOf}
+use Rattle.steps.specs.Same.{sameConvention, same-equal}
+use Rattle.steps.specs.Sure.{Surely}
 use Rattle.steps.specs.Laws.Parts.{each-moved, moved-on, as-many}
 use Rattle.finish.specs.declared.Paid.{Paid}
 use Rattle.finish.specs.declared.moving.Done.{Done}
 use Rattle.finish.specs.declared.moving.Done.the-variants.{Whole, Refused}
 use Rattle.finish.specs.Moving.{done, paired}
-use Rattle.finish.specs.Paying.{payBetween, PaidAlready, Narrowed, FirstPaid, LastPaid, LastKept, paidIf, stillPaid, payLastOf, payLast, payMiddle, paying}
+use Rattle.finish.specs.Paying.{payBetween, PaidAlready, Narrowed, FirstPaid, LastPaid, LastKnown, LastKept, paidIf, stillPaid, payLastOf, payLast, payMiddle, paying}
 use Rattle.finish.specs.Laws.Paying.{pay-one, paid-stays, pay-around, paying-is}
 use Rattle.finish.proofs.Moves.{done-refused, done-on}
 
@@ -212,8 +215,18 @@ adjusts : (mask : ℕ) (closed : List ℕ) (convention : Convention) (what : Mov
 unfolding moved
 adjusts mask closed convention what e = rw e refl
 
-pub last-paid : (what : Move) (terminal convention : Convention) (known : Paid) (n : ℕ) → what ≡ Adjust terminal → terminal ≡ convention → known .from < n → n ≤ known .to → LastPaid convention what known n
-last-paid what terminal convention known n e s from to = record { from = from; to = to; moves = e ∙ ap Adjust s }
+never-stays : (what : Move) (convention : Convention) → what ≡ Adjust convention → what ≡ Stay → ⊥
+never-stays what convention e h = let z : _≡_ {A = ℕ} 0 1 = cc in omega arith
+
+-- a first or last date that is moved is adjusted
+unless-adjusts : (mask : ℕ) (closed : List ℕ) (stays : Bool) (convention : Convention) → (unless stays convention ≡ Stay → ⊥) → moved mask closed (unless stays convention) ≡ adjusted mask closed convention
+unfolding unless moved
+unless-adjusts mask closed true convention h = absurd (h refl)
+unless-adjusts mask closed false convention h = refl
+
+pub last-paid : (what : Move) (terminal convention : Convention) (known : Paid) (n : ℕ) → what ≡ Adjust terminal → sameConvention terminal convention ≡ true → known .from < n → n ≤ known .to → LastPaid convention what known n
+last-paid what terminal convention known n e s from to =
+    record { from = from; to = to; moves = e ∙ ap Adjust (same-equal terminal convention s) }
 
 -- the first date that is filled in leaves the last
 pub last-kept : (f g : ℕ → Answer ℕ) (known : Paid) (ds ps ps′ : List ℕ) → length ds ≡ length ps → given ps′ ≡ payBetween g 0 1 ds ps → PaidAlready f (known .from) (known .to) ds ps → LastKept f known ds ps′
@@ -232,6 +245,24 @@ last-stays q closed work paid what w known e some even l k =
     rw (ne-eqb (length work) 1 e, ← w)
     (sym (ap (λ (g : ℕ → Answer ℕ). payBetween g (length work - 1) (length work) work paid) alike ∙ stays))
 
+-- a place that is filled with what its date adjusts to
+one-filled : (f : ℕ → Answer ℕ) (ds ps : List ℕ) (k n y : ℕ) → n ≡ suc k → k < length ds → length ds ≡ length ps → f (getD ds k 0) ≡ given y → payBetween f k n ds ps ≡ given (set ps k y)
+unfolding payBetween each then
+one-filled f ds ps k n y e h even m =
+    let one : suc k - k ≡ 1 = omega arith in
+    rw (e, one, drop-cons ds k 0 h, m) (ap given (sym (set-split ps k y (omega arith))))
+
+pub known-last : (what : Move) (convention : Convention) (last : Sure) (day : ℕ) → what ≡ Adjust convention → (last .paid ≡ 0 → ⊥) → last .day ≡ day → LastKnown what last day
+known-last what convention last day e known on = record { known = known; on = on; moves = never-stays what convention e }
+
+pub last-known : (q : Request) (closed work paid : List ℕ) (what : Move) → what ≡ lastMove q → (last : Sure) → (length work ≡ 1 → ⊥) → 1 ≤ length work → length work ≡ length paid → LastKnown what last (getD work (length work - 1) 0) → Surely (adjusted (q .mask) closed (q .terminal)) last → done Whole (set paid (length work - 1) (last .paid)) ≡ payLast q closed work paid
+unfolding payLast payLastOf done lastMove
+last-known q closed work paid what w last e some even l s =
+    let day : adjusted (q .mask) closed (q .terminal) (getD work (length work - 1) 0) ≡ given (last .paid) = rw (l .on) at (s .so (l .known)) in
+    let alike = unless-adjusts (q .mask) closed (isCredit (ruleInForce q)) (q .terminal) (λ h. l .moves (w ∙ h)) in
+    rw (ne-eqb (length work) 1 e, alike)
+    (sym (one-filled _ work paid (length work - 1) (length work) (last .paid) (omega arith) (omega arith) even day))
+
 module _ (q : Request) (closed work paid : List ℕ) (what : Move) (w : what ≡ lastMove q) (r : Done) (paid₁ : List ℕ) where
   pub last-alone : length work ≡ 1 → done r paid₁ ≡ onLast (moved (q .mask) closed what) paid → done r paid₁ ≡ payLast q closed work paid
   unfolding payLast payLastOf
@@ -242,15 +273,9 @@ module _ (q : Request) (closed work paid : List ℕ) (what : Move) (w : what ≡
   last-of-many e h = rw (ne-eqb (length work) 1 e, ← w) h
 
 -- ---- the first date
--- a first date that is moved is adjusted
-unless-adjusts : (mask : ℕ) (closed : List ℕ) (stays : Bool) (convention : Convention) → (unless stays convention ≡ Stay → ⊥) → moved mask closed (unless stays convention) ≡ adjusted mask closed convention
-unfolding unless moved
-unless-adjusts mask closed true convention h = absurd (h refl)
-unless-adjusts mask closed false convention h = refl
-
 pub first-paid : (what : Move) (convention : Convention) (known : Paid) → what ≡ Adjust convention → known .from ≡ 0 → 0 < known .to → FirstPaid what known
 first-paid what convention known e from some =
-    record { from = from; some = omega arith; moves = λ h. let z : _≡_ {A = ℕ} 0 1 = cc in omega arith }
+    record { from = from; some = omega arith; moves = never-stays what convention e }
 
 module _ (q : Request) (closed work paid : List ℕ) (some : 1 ≤ length work) (even : length work ≡ length paid) (what : Move) (w : what ≡ firstMove q) where
   pub first-stays : (known : Paid) → FirstPaid what known → PaidAlready (adjusted (q .mask) closed (q .convention)) (known .from) (known .to) work paid → done Whole paid ≡ payBetween (moved (q .mask) closed (firstMove q)) 0 1 work paid

@@ -14,6 +14,7 @@ use Rattle.steps.specs.declared.Move.the-variants.{Stay, Adjust}
 use Rattle.steps.specs.declared.Rule.{Rule}
 use Rattle.steps.specs.declared.Rule.the-variants.{ThirdWednesday, ThirdWednesdayInclusive}
 use Rattle.steps.specs.declared.Request.{Request}
+use Rattle.steps.specs.declared.Sure.{Sure}
 use Rattle.steps.specs.Rules.{oneOf}
 use Rattle.steps.specs.Finish.{each, moved, onLast, firstMove, lastMove, middleMove, seedAtEnd}
 use Rattle.finish.specs.declared.Paid.{Paid}
@@ -48,6 +49,12 @@ pub record LastPaid (convention : Convention) (what : Move) (known : Paid) (n : 
 -- and stays so while the first is filled in, if there are two dates and more
 pub record LastKept (f : ℕ → Answer ℕ) (known : Paid) (ds ps : List ℕ) : Type 0 where
   pub kept : known .from < length ds → length ds ≤ known .to → 2 ≤ length ds → PaidAlready f (length ds - 1) (length ds) ds ps
+
+-- the last date is on a day whose adjusted date is known, and not left alone
+pub record LastKnown (what : Move) (last : Sure) (day : ℕ) : Type 0 where
+  pub known : last .paid ≡ 0 → ⊥
+  pub on : last .day ≡ day
+  pub moves : what ≡ Stay → ⊥
 
 -- under a rule that moves dates to third Wednesdays none is paid yet
 unfoldable pub paidIf : Bool → Paid → Paid

@@ -7,8 +7,10 @@ ghost use Rattle.calendar.specs.Open.{closedOk};
 ghost use Rattle.calendar.specs.Adjust.{adjusted};
 ghost use Rattle.steps.specs.Finish.{moved, onLast, onMiddle, firstMove, wednesdays, adjustments};
 ghost use Rattle.steps.specs.Entries.{pairsOf};
+ghost use Rattle.steps.specs.Sure.{Surely};
 ghost use Rattle.finish.specs.Moving.{done, paired};
-ghost use Rattle.finish.specs.Paying.{payBetween, PaidAlready, Narrowed, FirstPaid, LastPaid, LastKept, stillPaid, payLast, payMiddle};
+ghost use Rattle.finish.specs.Paying.{payBetween, PaidAlready, Narrowed, FirstPaid, LastPaid, LastKnown, LastKept, stillPaid, payLast, payMiddle};
+use crate::Made;
 use crate::Paid;
 use crate::moving;
 use crate::moving::Done;
@@ -18,6 +20,7 @@ use calendar::search;
 use steps::Move;
 use steps::Request;
 use steps::Rule;
+use steps::Sure;
 use steps::moves;
 use steps::rules;
 use steps::seeds;
@@ -157,33 +160,6 @@ fn pay_middle(
     }
 }
 
-fn is_same(a: Convention, b: Convention) -> bool
-    ensures { λ r. ⌜ (r ≡ true → a ≡ b) ⌝ }
-{
-    match a {
-        Convention::Unadjusted => match b {
-            Convention::Unadjusted => true,
-            _ => false,
-        },
-        Convention::Following => match b {
-            Convention::Following => true,
-            _ => false,
-        },
-        Convention::ModifiedFollowing => match b {
-            Convention::ModifiedFollowing => true,
-            _ => false,
-        },
-        Convention::Preceding => match b {
-            Convention::Preceding => true,
-            _ => false,
-        },
-        Convention::ModifiedPreceding => match b {
-            Convention::ModifiedPreceding => true,
-            _ => false,
-        },
-    }
-}
-
 // Whether the last of n dates, if it is moved so, stands among those that are paid by the convention.
 fn is_last_paid(convention: Convention, what: Move, known: Paid, n: usize) -> bool
     ensures { λ r. ⌜ (r ≡ true → LastPaid convention what known n) ⌝ }
@@ -196,16 +172,33 @@ fn is_last_paid(convention: Convention, what: Move, known: Paid, n: usize) -> bo
             if known.to < n {
                 return false;
             }
-            is_same(terminal, convention)
+            moves::is_same(terminal, convention)
         }
         _ => false,
     }
 }
 
+// Whether a last date on the day, if it is moved so, is known to adjust.
+fn is_last_known(what: Move, last: Sure, day: u32) -> bool
+    ensures { λ r. ⌜ (r ≡ true → LastKnown what last day) ⌝ }
+{
+    match what {
+        Move::Adjust(_) => last.paid != 0 && last.day == day,
+        _ => false,
+    }
+}
+
 // The last date, unless it is paid; where there is one date alone, what the first adjustment made of it.
-fn pay_last(q: Request, closed: &[u32], known: Paid, work: &[u32], paid: &mut [u32]) -> Done
+fn pay_last(
+    q: Request,
+    closed: &[u32],
+    known: Paid,
+    last: Sure,
+    work: &[u32],
+    paid: &mut [u32],
+) -> Done
     requires { ⌜ (1 ≤ length (now work)) × (length (now work) ≡ length (now paid)) ⌝ }
-    ensures { λ r. ⌜ (closedOk (now (closed .entry)) ≡ true → LastKept (adjusted (q .mask) (now (closed .entry)) (q .convention)) known (now (work .entry)) (now (paid .entry)) → done r (now (paid .exit)) ≡ payLast q (now (closed .entry)) (now (work .entry)) (now (paid .entry))) ⌝ }
+    ensures { λ r. ⌜ (closedOk (now (closed .entry)) ≡ true → LastKept (adjusted (q .mask) (now (closed .entry)) (q .convention)) known (now (work .entry)) (now (paid .entry)) → Surely (adjusted (q .mask) (now (closed .entry)) (q .terminal)) last → done r (now (paid .exit)) ≡ payLast q (now (closed .entry)) (now (work .entry)) (now (paid .entry))) ⌝ }
 {
     let n = work.len();
     let what = moves::last_move(q);
@@ -214,6 +207,10 @@ fn pay_last(q: Request, closed: &[u32], known: Paid, work: &[u32], paid: &mut [u
     }
     let convention = q.convention;
     if is_last_paid(convention, what, known, n) {
+        return Done::Whole;
+    }
+    if is_last_known(what, last, work[n - 1]) {
+        paid[n - 1] = last.paid;
         return Done::Whole;
     }
     moving::pay_between(work, paid, n - 1, n, what, q.mask, closed)
@@ -247,19 +244,20 @@ fn pay_dates(
     closed: &[u32],
     seed: u32,
     known: Paid,
+    last: Sure,
     work: &[u32],
     paid: &mut [u32],
 ) -> Done
     requires { ⌜ (1 ≤ length (now work)) × (length (now work) ≡ length (now paid)) ⌝ }
-    ensures { λ r. ⌜ (closedOk (now (closed .entry)) ≡ true → PaidAlready (adjusted (q .mask) (now (closed .entry)) (q .convention)) (known .from) (known .to) (now (work .entry)) (now (paid .entry)) → done r (now (paid .exit)) ≡ adjustments q (now (closed .entry)) seed (now (work .entry))) ⌝ }
+    ensures { λ r. ⌜ (closedOk (now (closed .entry)) ≡ true → PaidAlready (adjusted (q .mask) (now (closed .entry)) (q .convention)) (known .from) (known .to) (now (work .entry)) (now (paid .entry)) → Surely (adjusted (q .mask) (now (closed .entry)) (q .terminal)) last → done r (now (paid .exit)) ≡ adjustments q (now (closed .entry)) seed (now (work .entry))) ⌝ }
 {
     let among = narrow(known, work.len());
     let first = pay_first(q, closed, known, work, paid);
     if let Done::Refused(n) = first {
         return Done::Refused(n);
     }
-    let last = pay_last(q, closed, known, work, paid);
-    match last {
+    let end = pay_last(q, closed, known, last, work, paid);
+    match end {
         Done::Whole => pay_middle(q, closed, seed, among, work, paid),
         Done::Refused(n) => Done::Refused(n),
     }
@@ -269,18 +267,29 @@ fn pay_dates(
 pub(crate) fn pair_dates(
     q: Request,
     closed: &[u32],
-    seed: u32,
-    known: Paid,
+    made: Made,
     work: &mut [u32],
     paid: &mut [u32],
 ) -> Done
     requires { ⌜ (1 ≤ length (now work)) × (length (now work) ≡ length (now paid)) ⌝ }
-    ensures { λ r. ⌜ (closedOk (now (closed .entry)) ≡ true → PaidAlready (adjusted (q .mask) (now (closed .entry)) (q .convention)) (known .from) (known .to) (now (work .entry)) (now (paid .entry)) → paired r (now (work .exit)) (now (paid .exit)) ≡ pairsOf q (now (closed .entry)) seed (now (work .entry))) ⌝ }
+    ensures { λ r. ⌜ (closedOk (now (closed .entry)) ≡ true → PaidAlready (adjusted (q .mask) (now (closed .entry)) (q .convention)) (made .paid .from) (made .paid .to) (now (work .entry)) (now (paid .entry)) → Surely (adjusted (q .mask) (now (closed .entry)) (q .terminal)) (made .last) → paired r (now (work .exit)) (now (paid .exit)) ≡ pairsOf q (now (closed .entry)) (made .seed) (now (work .entry))) ⌝ }
 {
     let rule = rules::rule_in_force(q);
     let moved = third_wednesdays(rule, q.mask, closed, work);
     match moved {
-        Done::Whole => pay_dates(q, closed, seed, still_paid(rule, known), work, paid),
+        Done::Whole => {
+            let known = made.paid;
+            let last = made.last;
+            pay_dates(
+                q,
+                closed,
+                made.seed,
+                still_paid(rule, known),
+                last,
+                work,
+                paid,
+            )
+        }
         Done::Refused(n) => Done::Refused(n),
     }
 }

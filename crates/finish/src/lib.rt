@@ -6,6 +6,7 @@ ghost use lib.ListN.{length};
 ghost use Rattle.calendar.specs.Open.{closedOk};
 ghost use Rattle.calendar.specs.Adjust.{adjusted};
 ghost use Rattle.steps.specs.Entries.{Written};
+ghost use Rattle.steps.specs.Sure.{Surely};
 ghost use Rattle.finish.specs.Finishing.{acceptedBuilt, Lent, lentRefusal, completed};
 ghost use Rattle.finish.specs.Ends.{CopiedOut};
 ghost use Rattle.finish.specs.Paying.{PaidAlready};
@@ -13,6 +14,7 @@ use crate::merges::Left;
 use crate::moving::Done;
 use steps::Built;
 use steps::Request;
+use steps::Sure;
 use steps::refused;
 use steps::rules;
 
@@ -31,11 +33,13 @@ pub struct Paid {
     pub to: usize,
 }
 
-// What is known of the generated dates: the seed, the tries, and which of them are paid.
+// What is known of the generated dates: the seed, the tries, which of them are paid, and what a day adjusts to by the convention of
+// the last date.
 pub struct Made {
     pub seed: u32,
     pub tries: u32,
     pub paid: Paid,
+    pub last: Sure,
 }
 
 fn accepted(q: Request, count: u32, tries: u32, moved: u32) -> Built
@@ -122,7 +126,7 @@ pub fn complete(
     flags: &mut [u8],
     unadjusted: &mut [u32],
 ) -> Built
-    ensures { λ r. ⌜ (closedOk (now (closed .entry)) ≡ true → PaidAlready (adjusted (q .mask) (now (closed .entry)) (q .convention)) (made .paid .from) (made .paid .to) (now (work .entry)) (now (paid .entry)) → Written q (completed q (now (closed .entry)) (made .seed) (made .tries) (now (work .entry)) (now (marks .entry)) (length (now (paid .entry))) (length (now (dates .entry))) (length (now (flags .entry))) (length (now (unadjusted .entry)))) r (now (dates .entry)) (now (flags .entry)) (now (unadjusted .entry)) (now (dates .exit)) (now (flags .exit)) (now (unadjusted .exit))) ⌝ }
+    ensures { λ r. ⌜ (closedOk (now (closed .entry)) ≡ true → PaidAlready (adjusted (q .mask) (now (closed .entry)) (q .convention)) (made .paid .from) (made .paid .to) (now (work .entry)) (now (paid .entry)) → Surely (adjusted (q .mask) (now (closed .entry)) (q .terminal)) (made .last) → Written q (completed q (now (closed .entry)) (made .seed) (made .tries) (now (work .entry)) (now (marks .entry)) (length (now (paid .entry))) (length (now (dates .entry))) (length (now (flags .entry))) (length (now (unadjusted .entry)))) r (now (dates .entry)) (now (flags .entry)) (now (unadjusted .entry)) (now (dates .exit)) (now (flags .exit)) (now (unadjusted .exit))) ⌝ }
 {
     let number = lent_refusal(
         work.len(),
@@ -135,8 +139,7 @@ pub fn complete(
     if number != 0 {
         return refused(number);
     }
-    let known = made.paid;
-    let moved = adjusting::pair_dates(q, closed, made.seed, known, work, paid);
+    let moved = adjusting::pair_dates(q, closed, made, work, paid);
     if let Done::Refused(n) = moved {
         return refused(n);
     }

@@ -1,7 +1,6 @@
 // Forward builds, and those on twentieths and third Wednesdays: from the effective date on to termination.
 ghost use mathlib.Core.Path.{_≡_};
 ghost use lib.ListN.{length};
-ghost use Rattle.calendar.specs.Adjust.{adjusted};
 ghost use Rattle.steps.specs.Generate.{forwardFrom, forward};
 ghost use Rattle.working.specs.Part.{working, Begun};
 ghost use Rattle.opening.specs.Opening.{opening};
@@ -31,7 +30,7 @@ fn forward_from(
     paid: &mut [u32],
     marks: &mut [u8],
 ) -> Generated
-    ensures { λ r. ⌜ Makes (Checked q (now (closed .entry)) × (Begun (now (closed .entry)) room n (working (now (work .entry)) (now (marks .entry))) × (length (now (paid .entry)) ≡ 4096))) (adjusted (q .mask) (now (closed .entry)) (q .convention)) room (forwardFrom q (now (closed .entry)) room (opening (working (now (work .entry)) (now (marks .entry))) (n, day))) r (working (now (work .exit)) (now (marks .exit))) (now (paid .exit)) ⌝ }
+    ensures { λ r. ⌜ Makes (Checked q (now (closed .entry)) × (Begun (now (closed .entry)) room n (working (now (work .entry)) (now (marks .entry))) × (length (now (paid .entry)) ≡ 4096))) q (now (closed .entry)) room (forwardFrom q (now (closed .entry)) room (opening (working (now (work .entry)) (now (marks .entry))) (n, day))) r (working (now (work .exit)) (now (marks .exit))) (now (paid .exit)) ⌝ }
 {
     let tenor = q.tenor;
     let convention = q.convention;
@@ -65,7 +64,7 @@ pub fn forward(
     paid: &mut [u32],
     marks: &mut [u8],
 ) -> Generated
-    ensures { λ r. ⌜ Makes (Blank q (now (closed .entry)) room (working (now (work .entry)) (now (marks .entry))) (now (paid .entry))) (adjusted (q .mask) (now (closed .entry)) (q .convention)) room (forward q (now (closed .entry)) room) r (working (now (work .exit)) (now (marks .exit))) (now (paid .exit)) ⌝ }
+    ensures { λ r. ⌜ Makes (Blank q (now (closed .entry)) room (working (now (work .entry)) (now (marks .entry))) (now (paid .entry))) q (now (closed .entry)) room (forward q (now (closed .entry)) room) r (working (now (work .exit)) (now (marks .exit))) (now (paid .exit)) ⌝ }
 {
     let opened = opening::open_forward(q, closed, room, work, marks);
     match opened {

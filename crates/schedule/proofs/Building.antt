@@ -12,6 +12,7 @@ use Rattle.refusal.specs.Answer.{Answer, given, refused, need, then, UNEVEN}
 use Rattle.refusal.specs.Laws.Answers.{then-given, then-refused, holds}
 use borrow.Author.Needs.{needs}
 use borrow.Author.Tests.{eq-eqb, ne-eqb, eqb-true}
+use Rattle.calendar.specs.Adjust.{adjusted}
 use Rattle.steps.specs.declared.Rule.{Rule}
 use Rattle.steps.specs.declared.Request.{Request}
 use Rattle.steps.specs.declared.Built.{Built}
@@ -76,7 +77,7 @@ pub refusal-written : (q : Request) (o : Answer Entries) (k : ℕ) (r : Built) (
 unfolding paidOf movedOf then answered datesAfter flagsAfter unadjustedAfter
 refusal-written q o k r dates flags unadjusted b e = rw (← e) (record { answer = b; dates-after = refl; flags-after = refl; unadjusted-after = refl })
 
-module _ (A : ℕ → Answer ℕ) (q : Request) (closed : List ℕ) (lent : ℕ) {room : ℕ} (g : Generated) (w : Work) (paid : List ℕ) (p : Generates A room (generate q closed room) g w paid) (least : room ≡ min lent 4096) where
+module _ (q : Request) (closed : List ℕ) (lent : ℕ) {room : ℕ} (g : Generated) (w : Work) (paid : List ℕ) (p : Generates q closed room (generate q closed room) g w paid) (least : room ≡ min lent 4096) where
   pub run-stop : (k : ℕ) → g ≡ generated-is.Refused k → refused k ≡ entrySteps q closed lent
   unfolding entrySteps generated
   run-stop k e =
@@ -92,14 +93,14 @@ module _ (A : ℕ → Answer ℕ) (q : Request) (closed : List ℕ) (lent : ℕ)
       then-given _ _ _ _ (rw least at k) refl
 
   -- what was generated fits into what is lent
-  pub run-laid : (c : Piece) → g ≡ generated-is.Ready c → Laid A lent w paid c
+  pub run-laid : (c : Piece) → g ≡ generated-is.Ready c → Laid q closed lent w paid c
   unfolding generated
   run-laid c e =
       let h : generated g ≡ given c = rw e in
       let d = was-kept p c h in
       let l = d .lies in
       let f = l .fits in
-      record { lies = record { some = l .some; fits = omega arith; dates-end = l .dates-end; flags-end = l .flags-end }; pays = d .pays }
+      record { lies = record { some = l .some; fits = omega arith; dates-end = l .dates-end; flags-end = l .flags-end }; pays = d .pays; sure = d .sure }
 
 -- ---- the number of the input's first refusal
 module _ (dates unadjusted row : ℕ) where
@@ -154,8 +155,8 @@ finish-is q closed seed tries ds ds′ ps fs fs′ dates flags unadjusted a b l 
 pub part-empty : (lent room : ℕ) (w : Work) → length (w .days) ≡ 4096 → length (w .marks) ≡ 4096 → room ≡ min lent 4096 → Part room 0 w
 part-empty lent room w a b e = record { work-size = a; marks-size = b; fits = omega arith; most = omega arith }
 
-module _ (A : ℕ → Answer ℕ) (work paid marks : List ℕ) (c : Piece) (end last : ℕ) (a : length work ≡ 4096) (e : end ≡ c .from + c .n) where
-  pub lent-part : (dates flags unadjusted : List ℕ) → length marks ≡ 4096 → last ≡ c .marked + (c .n - 1) → Laid A (length dates) (working work marks) paid c → length dates ≡ length flags → length dates ≡ length unadjusted → Lent (take (end - c .from) (drop (c .from) work)) (take (end - c .from) (drop (c .from) paid)) (take (last - c .marked) (drop (c .marked) marks)) dates flags unadjusted
+module _ (q : Request) (closed work paid marks : List ℕ) (c : Piece) (end last : ℕ) (a : length work ≡ 4096) (e : end ≡ c .from + c .n) where
+  pub lent-part : (dates flags unadjusted : List ℕ) → length marks ≡ 4096 → last ≡ c .marked + (c .n - 1) → Laid q closed (length dates) (working work marks) paid c → length dates ≡ length flags → length dates ≡ length unadjusted → Lent (take (end - c .from) (drop (c .from) work)) (take (end - c .from) (drop (c .from) paid)) (take (last - c .marked) (drop (c .marked) marks)) dates flags unadjusted
   lent-part dates flags unadjusted b f d k j =
       let l = d .lies in
       let m = part-long work (c .from) (c .n) end a e (l .dates-end) in
@@ -167,7 +168,7 @@ module _ (A : ℕ → Answer ℕ) (work paid marks : List ℕ) (c : Piece) (end 
       record { between = omega arith; beside = m ∙ sym n; most = omega arith; fits = omega arith; even = k; even-third = j }
 
   -- the known dates of the part are paid
-  pub paid-part : (room : ℕ) → Laid A room (working work marks) paid c → PaidAlready A (c .known) (c .beyond) (take (end - c .from) (drop (c .from) work)) (take (end - c .from) (drop (c .from) paid))
+  pub paid-part : (room : ℕ) → Laid q closed room (working work marks) paid c → PaidAlready (adjusted (q .mask) closed (q .convention)) (c .known) (c .beyond) (take (end - c .from) (drop (c .from) work)) (take (end - c .from) (drop (c .from) paid))
   paid-part room d =
       let k : end - c .from ≡ c .n = omega arith in
       record { so = rw k (d .pays .so) }

@@ -1,11 +1,11 @@
 // The dates of a build, by the rule in force.
 ghost use mathlib.Core.Path.{_≡_};
 ghost use lib.ListN.{length};
-ghost use Rattle.calendar.specs.Adjust.{adjusted};
 ghost use Rattle.steps.specs.Generate.{zeroDates, generate};
 ghost use Rattle.working.specs.Part.{working, Part};
 ghost use Rattle.working.specs.Making.{Checked, Generates, Zeroed};
 use steps::Request;
+use steps::Sure;
 use steps::rules;
 use working::Filled;
 use working::Generated;
@@ -30,6 +30,7 @@ fn zero_dates(q: Request, room: usize, work: &mut [u32], marks: &mut [u8]) -> Ge
         beyond: 0,
         tries: 0,
         seed: 0,
+        last: Sure::NONE,
     })
 }
 
@@ -43,7 +44,7 @@ pub(crate) fn generate(
 ) -> Generated
     requires { ⌜ Checked q (now closed) ⌝ }
     requires { ⌜ Part room 0 (working (now work) (now marks)) × (length (now paid) ≡ 4096) ⌝ }
-    ensures { λ r. ⌜ Generates (adjusted (q .mask) (now (closed .entry)) (q .convention)) room (generate q (now (closed .entry)) room) r (working (now (work .exit)) (now (marks .exit))) (now (paid .exit)) ⌝ }
+    ensures { λ r. ⌜ Generates q (now (closed .entry)) room (generate q (now (closed .entry)) room) r (working (now (work .exit)) (now (marks .exit))) (now (paid .exit)) ⌝ }
 {
     let rule = rules::rule_in_force(q);
     if rules::is_zero(rule) {

@@ -6,7 +6,6 @@ ghost use lib.Dec.{eqb};
 ghost use lib.ListN.{length, take, drop};
 ghost use Rattle.refusal.specs.Answer.{then, UNEVEN};
 ghost use Rattle.calendar.specs.Open.{closedOk};
-ghost use Rattle.calendar.specs.Adjust.{adjusted};
 ghost use Rattle.steps.specs.Table.{numberOr, firstRow, inputRows};
 ghost use Rattle.steps.specs.Entries.{Written, pairsOf, mergedEntries, entrySteps, entriesOf};
 ghost use Rattle.working.specs.Part.{working, Part};
@@ -41,7 +40,7 @@ fn finish_part(
     unadjusted: &mut [u32],
 ) -> Built
     requires { ⌜ (closedOk (now closed) ≡ true) × (length (now work) ≡ 4096) × (length (now marks) ≡ 4096) ⌝ }
-    requires { ⌜ Laid (adjusted (q .mask) (now closed) (q .convention)) (length (now dates)) (working (now work) (now marks)) (now paid) piece ⌝ }
+    requires { ⌜ Laid q (now closed) (length (now dates)) (working (now work) (now marks)) (now paid) piece ⌝ }
     requires { ⌜ (length (now dates) ≡ length (now flags)) × (length (now dates) ≡ length (now unadjusted)) ⌝ }
     ensures { λ r. ⌜ Written q (then (pairsOf q (now (closed .entry)) (piece .seed) (take (piece .n) (drop (piece .from) (now (work .entry))))) (mergedEntries (take (piece .n - 1) (drop (piece .marked) (now (marks .entry)))) (piece .tries))) r (now (dates .entry)) (now (flags .entry)) (now (unadjusted .entry)) (now (dates .exit)) (now (flags .exit)) (now (unadjusted .exit)) ⌝ }
 {
@@ -49,6 +48,7 @@ fn finish_part(
     let end = from + piece.n;
     let marked = piece.marked;
     let last = marked + (piece.n - 1);
+    let sure = piece.last;
     let made = Made {
         seed: piece.seed,
         tries: piece.tries,
@@ -56,6 +56,7 @@ fn finish_part(
             from: piece.known,
             to: piece.beyond,
         },
+        last: sure,
     };
     finish::complete(
         q,

@@ -7,3 +7,5 @@ pub mod Generate
 pub mod Finish
 pub mod Build
 pub mod Entries
+pub mod Sure
+pub mod Same

@@ -78,6 +78,16 @@ pub enum Move {
     OpenMonthEnds,
 }
 
+// A day and the date that it is known to adjust to; 0 where none is known.
+pub struct Sure {
+    pub day: u32,
+    pub paid: u32,
+}
+
+impl Sure {
+    pub const NONE: Sure = Sure { day: 0, paid: 0 };
+}
+
 // What a build answers: in a refusal the number, rule Zero, tenor 0 days, and 0 in all else. `moved` is the greatest number of days
 // between the paid and the unadjusted date of an entry.
 pub struct Built {

@@ -3,6 +3,8 @@ ghost use mathlib.Core.Path.{_≡_};
 ghost use mathlib.Core.Bool.{true};
 ghost use Rattle.date.specs.Date.{dated};
 ghost use Rattle.calendar.specs.Open.{closedOk};
+ghost use Rattle.calendar.specs.Adjust.{conventionNumber};
+ghost use Rattle.steps.specs.Same.{sameConvention};
 ghost use Rattle.steps.specs.Finish.{thirdWednesday, moved, unless, firstMove, lastMove, monthEndMove, middleMove};
 use crate::Move;
 use crate::Request;
@@ -15,6 +17,25 @@ use date::Date;
 use date::Dated;
 use date::civil;
 use date::span;
+
+// Document 01's number of a convention.
+fn number_of(convention: Convention) -> u8
+    ensures { λ r. ⌜ r ≡ conventionNumber convention ⌝ }
+{
+    match convention {
+        Convention::Unadjusted => 0,
+        Convention::Following => 1,
+        Convention::ModifiedFollowing => 2,
+        Convention::Preceding => 3,
+        Convention::ModifiedPreceding => 4,
+    }
+}
+
+pub fn is_same(a: Convention, b: Convention) -> bool
+    ensures { λ r. ⌜ r ≡ sameConvention a b ⌝ }
+{
+    number_of(a) == number_of(b)
+}
 
 pub fn third_wednesday(day: u32) -> Dated
     ensures { λ r. ⌜ dated r ≡ thirdWednesday day ⌝ }

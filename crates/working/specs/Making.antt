@@ -11,9 +11,11 @@ use lib.Seq.{take-all, take-at, take-add, take-take, drop-at, drop-drop, drop-ap
 use Rattle.refusal.specs.Answer.{Answer, given, refused}
 use Rattle.calendar.specs.Open.{closedOk}
 use Rattle.calendar.specs.Calendar.{tenorOk}
+use Rattle.calendar.specs.Adjust.{adjusted}
 use Rattle.steps.specs.declared.Request.{Request}
 use Rattle.steps.specs.Generate.{Made, madeBack}
 use Rattle.steps.specs.Finish.{each}
+use Rattle.steps.specs.Sure.{Surely, unsure, none-sure}
 use Rattle.steps.specs.Laws.Grows.{Grows}
 use Rattle.working.specs.Step.{Gives, Step, gives, gives-less}
 use Rattle.working.specs.Part.{Work, Part, Placed, held, lastPut}
@@ -54,43 +56,51 @@ pub record Pays (A : ℕ → Answer ℕ) (w : Work) (paid : List ℕ) (p : Piece
   pub size : length paid ≡ 4096
   pub so : each A (take (p .beyond - p .known) (drop (p .known) (take (p .n) (drop (p .from) (w .days))))) ≡ given (take (p .beyond - p .known) (drop (p .known) (take (p .n) (drop (p .from) paid))))
 
-pub record Laid (A : ℕ → Answer ℕ) (room : ℕ) (w : Work) (paid : List ℕ) (p : Piece) : Type 0 where
+-- it lies within the lists, and what it says is so: of the paid dates by the convention, of a day by that of the last date
+pub record Laid (q : Request) (closed : List ℕ) (room : ℕ) (w : Work) (paid : List ℕ) (p : Piece) : Type 0 where
   pub lies : Lies room p
-  pub pays : Pays A w paid p
+  pub pays : Pays (adjusted (q .mask) closed (q .convention)) w paid p
+  pub sure : Surely (adjusted (q .mask) closed (q .terminal)) (p .last)
 
-abbrev pub Generates : (A : ℕ → Answer ℕ) (room : ℕ) (o : Answer Made) (r : Generated) (w : Work) (paid : List ℕ) → Type 0
-Generates A room o r w paid = Gives (piece w) (Laid A room w paid) o (generated r)
+abbrev pub Generates : (q : Request) (closed : List ℕ) (room : ℕ) (o : Answer Made) (r : Generated) (w : Work) (paid : List ℕ) → Type 0
+Generates q closed room o r w paid = Gives (piece w) (Laid q closed room w paid) o (generated r)
 
 -- the promise of what is generated under a premise
-abbrev pub Makes : (Premise : Type 0) (A : ℕ → Answer ℕ) (room : ℕ) (o : Answer Made) (r : Generated) (w : Work) (paid : List ℕ) → Type 0
-Makes Premise A room o r w paid = Step Premise (piece w) (Laid A room w paid) o (generated r)
+abbrev pub Makes : (Premise : Type 0) (q : Request) (closed : List ℕ) (room : ℕ) (o : Answer Made) (r : Generated) (w : Work) (paid : List ℕ) → Type 0
+Makes Premise q closed room o r w paid = Step Premise (piece w) (Laid q closed room w paid) o (generated r)
 
 pub generated-is-refused : (k : ℕ) → generated (Refused k) ≡ refused k
 unfolding generated
 generated-is-refused k = refl
 
--- what stands by itself, with none paid
+-- what stands by itself, with none paid and nothing known of the last
 pub record Unpaid (room : ℕ) (w : Work) (p : Piece) : Type 0 where
   pub lies : Lies room p
   pub none : p .known ≡ p .beyond
+  pub last : p .last .paid ≡ 0
 
 abbrev pub Zeroed : (room : ℕ) (o : Answer Made) (r : Generated) (w : Work) → Type 0
 Zeroed room o r w = Gives (piece w) (Unpaid room w) o (generated r)
 
+-- n dates at the far end of the working lists, of which those up to a place are paid
+abbrev pub atEnd : (n from beyond tries seed : ℕ) → Piece
+atEnd n from beyond tries seed =
+    record { from = from; marked = from; n = n; known = 0; beyond = beyond; tries = tries; seed = seed; last = unsure }
+
 -- what fills the working lists from the far end on
-pub back-made : {room n : ℕ} {w : Work} {Keeps : Piece → Type 0} (tries seed from beyond : ℕ) → Placed room n w → from ≡ 4096 - n → ((p : Piece) → p ≡ record { from = from; marked = from; n = n; known = 0; beyond = beyond; tries = tries; seed = seed } → Lies room p → Keeps p) → Gives (piece w) Keeps (given (madeBack tries seed (held true n w))) (generated (Ready (record { from = from; marked = from; n = n; known = 0; beyond = beyond; tries = tries; seed = seed })))
+pub back-made : {room n : ℕ} {w : Work} {Keeps : Piece → Type 0} (tries seed from beyond : ℕ) → Placed room n w → from ≡ 4096 - n → ((p : Piece) → p ≡ atEnd n from beyond tries seed → Lies room p → Keeps p) → Gives (piece w) Keeps (given (madeBack tries seed (held true n w))) (generated (Ready (atEnd n from beyond tries seed)))
 unfolding generated piece held lastPut
 back-made {n = n} {w = w} tries seed from beyond p at keeps =
     let t = p .part in
     let l : length (drop (4096 - n) (w .days)) ≡ n = put-length true (w .days) n (t .work-size) (omega (arith, t)) in
     let d : take n (drop (4096 - n) (w .days)) ≡ drop (4096 - n) (w .days) = take-all n (drop (4096 - n) (w .days)) (omega arith) in
-    gives (record { from = from; marked = from; n = n; known = 0; beyond = beyond; tries = tries; seed = seed }) (rw (at, d, l) refl)
+    gives (atEnd n from beyond tries seed) (rw (at, d, l) refl)
     (keeps _ refl (record { some = omega (arith, p); fits = t .fits; dates-end = omega (arith, t, at); flags-end = omega (arith, t, at) }))
 
 -- of a backward build those from the start on are paid
-pub back-laid : (A : ℕ → Answer ℕ) {room n start : ℕ} {w : Work} {paid : List ℕ} (tries seed from beyond : ℕ) → Placed room n w → Paid A true start n (w .days) paid → from ≡ 4096 - n → beyond ≡ n - start → Gives (piece w) (Laid A room w paid) (given (madeBack tries seed (held true n w))) (generated (Ready (record { from = from; marked = from; n = n; known = 0; beyond = beyond; tries = tries; seed = seed })))
+pub back-laid : (q : Request) (closed : List ℕ) {room n start : ℕ} {w : Work} {paid : List ℕ} (tries seed from beyond : ℕ) → Placed room n w → Paid (adjusted (q .mask) closed (q .convention)) true start n (w .days) paid → from ≡ 4096 - n → beyond ≡ n - start → Gives (piece w) (Laid q closed room w paid) (given (madeBack tries seed (held true n w))) (generated (Ready (atEnd n from beyond tries seed)))
 unfolding PaidSo lastPut
-back-laid A {n = n} {start = start} {w = w} {paid = paid} tries seed from beyond p r at b =
+back-laid q closed {n = n} {start = start} {w = w} {paid = paid} tries seed from beyond p r at b =
     let t = p .part in
     let size = r .size in
     let x : length (drop (4096 - n) (w .days)) ≡ n = put-length true (w .days) n (t .work-size) (omega (arith, t)) in
@@ -98,7 +108,7 @@ back-laid A {n = n} {start = start} {w = w} {paid = paid} tries seed from beyond
     let dates : take n (drop (4096 - n) (w .days)) ≡ drop (4096 - n) (w .days) = take-all n (drop (4096 - n) (w .days)) (omega arith) in
     let pays : take n (drop (4096 - n) paid) ≡ drop (4096 - n) paid = take-all n (drop (4096 - n) paid) (omega arith) in
     let long : beyond - 0 ≡ n - start = omega (arith, b) in
-    back-made tries seed from beyond p at (λ c e l. record { lies = l; pays = record { size = size; so = rw (e, long, at, dates, pays) (r .so) } })
+    back-made tries seed from beyond p at (λ c e l. record { lies = l; pays = record { size = size; so = rw (e, long, at, dates, pays) (r .so) }; sure = rw e (none-sure _) })
 
 -- the same part of a list, cut from either end
 part-front : (l : List ℕ) (a b : ℕ) → a ≤ b → b ≤ length l → take (b - a) (drop a l) ≡ drop a (take b l)
@@ -126,12 +136,12 @@ forth-pays A {start} {m} {n} w w′ paid r s s′ few most g p at count known be
     part-front (take n paid) start m order (omega (arith, u, t, l, x)) ∙ ap (drop start) (take-take m n paid (omega (arith, t, l, x))) in
     record { size = size; so = rw (at, count, known, beyond, dates, pays) (r .so) }
 
-pub unpaid-laid : (A : ℕ → Answer ℕ) {room : ℕ} {o : Answer Made} (w : Work) (paid : List ℕ) {r : Answer Piece} → length paid ≡ 4096 → Gives (piece w) (Unpaid room w) o r → Gives (piece w) (Laid A room w paid) o r
+pub unpaid-laid : (q : Request) (closed : List ℕ) {room : ℕ} {o : Answer Made} (w : Work) (paid : List ℕ) {r : Answer Piece} → length paid ≡ 4096 → Gives (piece w) (Unpaid room w) o r → Gives (piece w) (Laid q closed room w paid) o r
 unfolding each
-unpaid-laid A w paid size g =
-    gives-less (λ c u. let z : c .beyond - c .known ≡ 0 = omega (arith, u .none) in record { lies = u .lies; pays = record { size = size; so = rw z refl } }) g
+unpaid-laid q closed w paid size g =
+    gives-less (λ c u. let z : c .beyond - c .known ≡ 0 = omega (arith, u .none) in record { lies = u .lies; pays = record { size = size; so = rw z refl }; sure = record { so = λ h. absurd (h (u .last)) } }) g
 
 -- what fills the lists from the far end on by itself
-pub back-unpaid : {room n : ℕ} {w : Work} (tries seed : ℕ) → Placed room n w → Gives (piece w) (Unpaid room w) (given (madeBack tries seed (held true n w))) (generated (Ready (record { from = 4096 - n; marked = 4096 - n; n = n; known = 0; beyond = 0; tries = tries; seed = seed })))
+pub back-unpaid : {room n : ℕ} {w : Work} (tries seed : ℕ) → Placed room n w → Gives (piece w) (Unpaid room w) (given (madeBack tries seed (held true n w))) (generated (Ready (atEnd n (4096 - n) 0 tries seed)))
 back-unpaid {n = n} tries seed p =
-    back-made tries seed (4096 - n) 0 p refl (λ c e l. record { lies = l; none = rw e refl })
+    back-made tries seed (4096 - n) 0 p refl (λ c e l. record { lies = l; none = rw e refl; last = rw e refl })

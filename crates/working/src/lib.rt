@@ -4,6 +4,7 @@
 use calendar::Convention;
 use steps::Pace;
 use steps::Seed;
+use steps::Sure;
 
 // The working lists: dates and marks are put into them.
 pub mod lists;
@@ -49,7 +50,8 @@ pub enum Filled {
 }
 
 // A part of the working lists: n dates from a place on, and the flags between them from another place on; with the tries and the seed.
-// Those from the `known`-th up to the `beyond`-th have their paid dates beside them.
+// Those from the `known`-th up to the `beyond`-th have their paid dates beside them. `last` says what a day adjusts to by the
+// convention of the last date.
 pub struct Piece {
     pub from: usize,
     pub marked: usize,
@@ -58,6 +60,7 @@ pub struct Piece {
     pub beyond: usize,
     pub tries: u32,
     pub seed: u32,
+    pub last: Sure,
 }
 
 // What has been generated.

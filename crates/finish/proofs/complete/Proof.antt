@@ -27,7 +27,7 @@ returns : tie.Need-returns
 returns c =
     let test : tie.Then1 = search in
     let lent : tie.After-lent-refusal = search in
-    λ ok k. lent-stop _ _ _ _ _ _ _ _ _ _ _ _ (lent .lent-refusal .ensures) (test .if1 .taken) (c .refused .ensures)
+    λ ok k s. lent-stop _ _ _ _ _ _ _ _ _ _ _ _ (lent .lent-refusal .ensures) (test .if1 .taken) (c .refused .ensures)
 
 pair-dates-requires : tie.Need-pair-dates-requires
 pair-dates-requires c κs =
@@ -53,7 +53,7 @@ returns-2 c =
     let paid : tie.After-pair-dates = search in
     let free : tie.Else1 = search in
     let lent : tie.After-lent-refusal = search in
-    λ ok k. pairs-stop _ _ _ _ _ _ _ _ _ _ _ (lent .lent-refusal .ensures) (free .if1 .left) _ _ _ (paid .pair-dates .ensures ok k) _ _ (known .moved .given .1) (c .refused2 .ensures)
+    λ ok k s. pairs-stop _ _ _ _ _ _ _ _ _ _ _ (lent .lent-refusal .ensures) (free .if1 .left) _ _ _ (paid .pair-dates .ensures ok k s) _ _ (known .moved .given .1) (c .refused2 .ensures)
 
 enum-told : tie.Need-enum-told
 enum-told c = search needs
@@ -107,8 +107,9 @@ sub-count c =
 
 cast-accepted : tie.Need-cast-accepted
 cast-accepted c =
-    let paid : tie.After-paid = search in
+    let follow : tie.After-follow = search in
     let left : tie.After-left2 = search in
+    let paid : tie.After-paid = search in
     let merged : tie.After-merge = search in
     let free : tie.Else1 = search in
     let lent : tie.After-lent-refusal = search in
@@ -136,7 +137,7 @@ returns-3 c =
     let paid : tie.After-pair-dates = search in
     let free : tie.Else1 = search in
     let lent : tie.After-lent-refusal = search in
-    λ ok k. merge-stop _ _ _ _ _ _ _ _ _ _ _ (lent .lent-refusal .ensures) (free .if1 .left) _ _ _ (paid .pair-dates .ensures ok k) (told .enum-told .given .1) _ _ _ (merged .merge .ensures) _ _ (left .left .given .1) (c .refused3 .ensures)
+    λ ok k s. merge-stop _ _ _ _ _ _ _ _ _ _ _ (lent .lent-refusal .ensures) (free .if1 .left) _ _ _ (paid .pair-dates .ensures ok k s) (told .enum-told .given .1) _ _ _ (merged .merge .ensures) _ _ (left .left .given .1) (c .refused3 .ensures)
 
 same-length-6 : tie.Need-same-length-6
 same-length-6 c =
@@ -178,7 +179,7 @@ returns-4 c =
     let pairs : tie.After-pair-dates = search in
     let free : tie.Else1 = search in
     let lent : tie.After-lent-refusal = search in
-    λ ok k. written-out _ _ _ _ _ _ _ _ _ _ _ (lent .lent-refusal .ensures) (free .if1 .left) _ _ _ (pairs .pair-dates .ensures ok k) (told .enum-told .given .1) _ _ _ (merged .merge .ensures) _ _ _ _ _ _ _ _ (left .left2 .given .1) (paid2 .paid2 .given) (omega (arith, work .work .given, paid .paid .given, lent-beside _ _ _ _ _ _ _ (lent .lent-refusal .ensures) (free .if1 .left))) (follow .follow .ensures) (out .copy-out .ensures) (done .accepted .ensures)
+    λ ok k s. written-out _ _ _ _ _ _ _ _ _ _ _ (lent .lent-refusal .ensures) (free .if1 .left) _ _ _ (pairs .pair-dates .ensures ok k s) (told .enum-told .given .1) _ _ _ (merged .merge .ensures) _ _ _ _ _ _ _ _ (left .left2 .given .1) (paid2 .paid2 .given) (omega (arith, work .work .given, paid .paid .given, lent-beside _ _ _ _ _ _ _ (lent .lent-refusal .ensures) (free .if1 .left))) (follow .follow .ensures) (out .copy-out .ensures) (done .accepted .ensures)
 
 pub complete-spec : {M : Type 1} → statement M
 complete-spec =

@@ -80,7 +80,7 @@ returns c =
     let start : tie.Start = search in
     let p = start .pre in
     let a = start .args in
-    written-as _ _ _ _ _ _ _ _ _ _ (finish-is _ _ _ _ _ _ _ _ _ (a .dates .now) (a .flags .now) (a .unadjusted .now) (part-is _ _ _ _ (p .0 .1) refl (p .1 .0 .lies .dates-end)) (part-is _ _ _ _ (p .0 .2) refl (p .1 .0 .lies .flags-end)) (lent-part _ _ _ _ (a .piece) _ _ (p .0 .1) refl (a .dates .now) (a .flags .now) (a .unadjusted .now) (p .0 .2) refl (p .1 .0) (p .1 .1 .0) (p .1 .1 .1))) (complete .complete .ensures (p .0 .0) (paid-part _ _ _ _ (a .piece) _ 0 (p .0 .1) refl _ (p .1 .0)))
+    written-as _ _ _ _ _ _ _ _ _ _ (finish-is _ _ _ _ _ _ _ _ _ (a .dates .now) (a .flags .now) (a .unadjusted .now) (part-is _ _ _ _ (p .0 .1) refl (p .1 .0 .lies .dates-end)) (part-is _ _ _ _ (p .0 .2) refl (p .1 .0 .lies .flags-end)) (lent-part _ _ _ _ _ (a .piece) _ _ (p .0 .1) refl (a .dates .now) (a .flags .now) (a .unadjusted .now) (p .0 .2) refl (p .1 .0) (p .1 .1 .0) (p .1 .1 .1))) (complete .complete .ensures (p .0 .0) (paid-part _ _ _ _ _ (a .piece) _ 0 (p .0 .1) refl _ (p .1 .0)) (p .1 .0 .sure))
 
 pub finish-part-spec : {M : Type 1} → statement M
 finish-part-spec =

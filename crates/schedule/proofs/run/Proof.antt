@@ -36,7 +36,7 @@ finish-part-requires c κs =
     let least : tie.After-least = search in
     let start : tie.Start = search in
     let p = start .pre in
-    ((p .0 .calendar, work .finish-part-arg .given .0 .1, marks .finish-part-arg3 .given .0 .1), (run-laid _ _ _ _ _ _ _ (made .generate .ensures) (least .least .ensures) _ (ready .made2 .given .1), p .1))
+    ((p .0 .calendar, work .finish-part-arg .given .0 .1, marks .finish-part-arg3 .given .0 .1), (run-laid _ _ _ _ _ _ (made .generate .ensures) (least .least .ensures) _ (ready .made2 .given .1), p .1))
 
 returns : tie.Need-returns
 returns c =
@@ -44,7 +44,7 @@ returns c =
     let stop : tie.After-made = search in
     let made : tie.After-generate = search in
     let least : tie.After-least = search in
-    refusal-written _ _ _ _ _ _ _ (refusal .refused .ensures) (run-stop _ _ _ _ _ _ _ (made .generate .ensures) (least .least .ensures) _ (stop .made .given .1))
+    refusal-written _ _ _ _ _ _ _ (refusal .refused .ensures) (run-stop _ _ _ _ _ _ (made .generate .ensures) (least .least .ensures) _ (stop .made .given .1))
 
 same-length : tie.Need-same-length
 same-length c = search needs
@@ -61,7 +61,7 @@ returns-2 c =
     let ready : tie.After-made2 = search in
     let made : tie.After-generate = search in
     let least : tie.After-least = search in
-    written-as _ _ _ _ _ _ _ _ _ _ (run-on _ _ _ _ _ _ _ (made .generate .ensures) (least .least .ensures) _ (ready .made2 .given .1)) (finish .finish-part .ensures)
+    written-as _ _ _ _ _ _ _ _ _ _ (run-on _ _ _ _ _ _ (made .generate .ensures) (least .least .ensures) _ (ready .made2 .given .1)) (finish .finish-part .ensures)
 
 pub run-spec : {M : Type 1} → statement M
 run-spec =

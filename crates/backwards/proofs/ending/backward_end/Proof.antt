@@ -59,7 +59,7 @@ returns-2 c =
     let from : tie.After-surplus = search in
     let tip : tie.After-t = search in
     let end : tie.After-end = search in
-    record { run = λ a. added-on _ _ (end .end .ensures) _ (tip .t .given .1) a (λ s. back-laid _ _ _ _ _ (begun-placed (s .ahead .begun)) (s .pays) (from .surplus .ensures) (beyond .surplus2 .ensures)) }
+    record { run = λ a. added-on _ _ (end .end .ensures) _ (tip .t .given .1) a (λ s. back-laid _ _ _ _ _ _ (begun-placed (s .ahead .begun)) (s .pays) (from .surplus .ensures) (beyond .surplus2 .ensures)) }
 
 pub backward-end-spec : {M : Type 1} → statement M
 backward-end-spec =

@@ -43,7 +43,7 @@ returns c =
     let wed : tie.After-third-wednesdays = search in
     let rule : tie.After-rule-in-force = search in
     let start : tie.Start = search in
-    λ ok k. pairs-on _ _ _ _ _ _ (rule .rule-in-force .ensures) _ (wed .third-wednesdays .ensures ok) (told .enum-told .given .1) _ _ (paid .pay-dates .ensures ok (pairs-paid (start .args .q) _ (start .args .seed) _ _ _ (rule .rule-in-force .ensures) _ (wed .third-wednesdays .ensures ok) (told .enum-told .given .1) _ _ _ _ (still .still-paid .ensures) k))
+    λ ok k s. pairs-on _ _ _ _ _ _ (rule .rule-in-force .ensures) _ (wed .third-wednesdays .ensures ok) (told .enum-told .given .1) _ _ (paid .pay-dates .ensures ok (pairs-paid (start .args .q) _ (start .args .made .seed) _ _ _ (rule .rule-in-force .ensures) _ (wed .third-wednesdays .ensures ok) (told .enum-told .given .1) _ _ _ _ (still .still-paid .ensures) k) s)
 
 same-length-3 : tie.Need-same-length-3
 same-length-3 c = search needs
@@ -53,7 +53,7 @@ returns-2 c =
     let known : tie.After-moved = search in
     let wed : tie.After-third-wednesdays = search in
     let rule : tie.After-rule-in-force = search in
-    λ ok k. pairs-refused _ _ _ _ _ _ (rule .rule-in-force .ensures) _ (wed .third-wednesdays .ensures ok) _ _ (known .moved .given .1)
+    λ ok k s. pairs-refused _ _ _ _ _ _ (rule .rule-in-force .ensures) _ (wed .third-wednesdays .ensures ok) _ _ (known .moved .given .1)
 
 pub pair-dates-spec : {M : Type 1} → statement M
 pair-dates-spec =

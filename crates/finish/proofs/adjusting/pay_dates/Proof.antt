@@ -29,7 +29,7 @@ returns c =
     let known : tie.After-first = search in
     let paid : tie.After-pay-first = search in
     let start : tie.Start = search in
-    λ ok k. dates-refused _ _ _ _ _ (start .pre .0) (start .pre .1) _ _ (paid .pay-first .ensures ok k) _ _ (known .first .given .1)
+    λ ok k s. dates-refused _ _ _ _ _ (start .pre .0) (start .pre .1) _ _ (paid .pay-first .ensures ok k) _ _ (known .first .given .1)
 
 enum-told : tie.Need-enum-told
 enum-told c = search needs
@@ -43,8 +43,8 @@ enum-told-2 c = search needs
 pay-middle-requires : tie.Need-pay-middle-requires
 pay-middle-requires c κs = search needs
 
-enum-known-last : tie.Need-enum-known-last
-enum-known-last c = search needs
+enum-known-end : tie.Need-enum-known-end
+enum-known-end c = search needs
 
 same-length-2 : tie.Need-same-length-2
 same-length-2 c = search needs
@@ -59,19 +59,19 @@ returns-2 c =
     let paid : tie.After-pay-first = search in
     let narrow : tie.After-narrow = search in
     let start : tie.Start = search in
-    λ ok k. dates-on _ _ _ _ _ (start .pre .0) (start .pre .1) _ _ (paid .pay-first .ensures ok k) (told .enum-told .given .1) _ _ (ended .pay-last .ensures ok (dates-kept (start .args .q) _ (start .args .seed) _ _ (start .pre .0) (start .pre .1) _ _ (paid .pay-first .ensures ok k) _ _ (told .enum-told .given .1) k)) _ _ (on .enum-told2 .given .1) (middle .pay-middle .ensures ok (among-paid (start .args .q) _ (start .args .seed) _ _ (start .pre .0) (start .pre .1) _ _ (paid .pay-first .ensures ok k) (told .enum-told .given .1) _ _ (ended .pay-last .ensures ok (dates-kept (start .args .q) _ (start .args .seed) _ _ (start .pre .0) (start .pre .1) _ _ (paid .pay-first .ensures ok k) _ _ (told .enum-told .given .1) k)) _ _ _ (on .enum-told2 .given .1) refl (narrow .narrow .ensures) (long .paid .given) _ k))
+    λ ok k s. dates-on _ _ _ _ _ (start .pre .0) (start .pre .1) _ _ (paid .pay-first .ensures ok k) (told .enum-told .given .1) _ _ (ended .pay-last .ensures ok (dates-kept (start .args .q) _ (start .args .seed) _ _ (start .pre .0) (start .pre .1) _ _ (paid .pay-first .ensures ok k) _ _ (told .enum-told .given .1) k) s) _ _ (on .enum-told2 .given .1) (middle .pay-middle .ensures ok (among-paid (start .args .q) _ (start .args .seed) _ _ (start .pre .0) (start .pre .1) _ _ (paid .pay-first .ensures ok k) (told .enum-told .given .1) _ _ (ended .pay-last .ensures ok (dates-kept (start .args .q) _ (start .args .seed) _ _ (start .pre .0) (start .pre .1) _ _ (paid .pay-first .ensures ok k) _ _ (told .enum-told .given .1) k) s) _ _ _ (on .enum-told2 .given .1) refl (narrow .narrow .ensures) (long .paid .given) _ k))
 
 same-length-3 : tie.Need-same-length-3
 same-length-3 c = search needs
 
 returns-3 : tie.Need-returns-3
 returns-3 c =
-    let known : tie.After-last = search in
+    let known : tie.After-end = search in
     let ended : tie.After-pay-last = search in
     let told : tie.After-enum-told = search in
     let paid : tie.After-pay-first = search in
     let start : tie.Start = search in
-    λ ok k. dates-last-refused _ _ _ _ _ (start .pre .0) (start .pre .1) _ _ (paid .pay-first .ensures ok k) (told .enum-told .given .1) _ _ (ended .pay-last .ensures ok (dates-kept (start .args .q) _ (start .args .seed) _ _ (start .pre .0) (start .pre .1) _ _ (paid .pay-first .ensures ok k) _ _ (told .enum-told .given .1) k)) _ _ (known .last .given .1)
+    λ ok k s. dates-last-refused _ _ _ _ _ (start .pre .0) (start .pre .1) _ _ (paid .pay-first .ensures ok k) (told .enum-told .given .1) _ _ (ended .pay-last .ensures ok (dates-kept (start .args .q) _ (start .args .seed) _ _ (start .pre .0) (start .pre .1) _ _ (paid .pay-first .ensures ok k) _ _ (told .enum-told .given .1) k) s) _ _ (known .end .given .1)
 
 pub pay-dates-spec : {M : Type 1} → statement M
 pay-dates-spec =
@@ -86,7 +86,7 @@ pay-dates-spec =
     pay-last-requires
     enum-told-2
     pay-middle-requires
-    enum-known-last
+    enum-known-end
     same-length-2
     returns-2
     same-length-3

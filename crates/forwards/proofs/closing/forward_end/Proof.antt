@@ -2,8 +2,8 @@
 -- Assumes nothing.
 use Rattle.working.specs.Step.{gives-as}
 use Rattle.working.specs.Adding.{added-stops, added-on}
-use Rattle.working.specs.Part.{filled-stops}
 use Rattle.working.specs.Making.{generated-is-refused}
+use Rattle.forwards.specs.Closing.{closing-stops}
 use Rattle.forwards.proofs.Forthing.{end-is, forth-laid}
 use borrow.Author.Needs.{needs}
 use Rattle.forwards.proofs.closing.forward_end.Statement.{statement}
@@ -44,6 +44,9 @@ close-requires c κs = search needs
 enum-known-k-2 : tie.Need-enum-known-k-2
 enum-known-k-2 c = search needs
 
+enum-known-n : tie.Need-enum-known-n
+enum-known-n c = search needs
+
 same-length-4 : tie.Need-same-length-4
 same-length-4 c = search needs
 
@@ -60,10 +63,7 @@ returns-2 c =
     let tip : tie.After-t = search in
     let anchor : tie.After-put-anchor = search in
     let start : tie.Start = search in
-    record { run = λ a. gives-as (end-is (start .args .q) _ _ _ _ _) (added-on _ _ (anchor .put-anchor .ensures) _ (tip .t .given .1) a (λ t. filled-stops _ _ (close .close .ensures) _ (stop .k2 .given .1) (t .ahead .begun) (generated-is-refused _))) }
-
-enum-known-n : tie.Need-enum-known-n
-enum-known-n c = search needs
+    record { run = λ a. gives-as (end-is (start .args .q) _ _ _ _ _) (added-on _ _ (anchor .put-anchor .ensures) _ (tip .t .given .1) a (λ t. closing-stops _ _ (close .close .ensures) _ (stop .k2 .given .1) (t .ahead) (generated-is-refused _))) }
 
 same-length-7 : tie.Need-same-length-7
 same-length-7 c = search needs
@@ -81,7 +81,7 @@ returns-3 c =
     let tip : tie.After-t = search in
     let anchor : tie.After-put-anchor = search in
     let start : tie.Start = search in
-    record { run = λ a. gives-as (end-is (start .args .q) _ _ _ _ _) (added-on _ _ (anchor .put-anchor .ensures) _ (tip .t .given .1) a (λ t. forth-laid _ (start .args .q) _ _ _ (t .ahead .begun .part) (t .pays) _ _ (close .close .ensures .run (t .ahead .begun)) _ (ready .n .given .1))) }
+    record { run = λ a. gives-as (end-is (start .args .q) _ _ _ _ _) (added-on _ _ (anchor .put-anchor .ensures) _ (tip .t .given .1) a (λ t. forth-laid (start .args .q) _ _ _ (t .ahead .begun .part) (t .pays) _ _ (close .close .ensures .run (t .ahead)) _ _ (ready .n .given .1))) }
 
 pub forward-end-spec : {M : Type 1} → statement M
 forward-end-spec =
@@ -96,11 +96,11 @@ forward-end-spec =
     enum-known-t
     close-requires
     enum-known-k-2
+    enum-known-n
     same-length-4
     same-length-5
     same-length-6
     returns-2
-    enum-known-n
     same-length-7
     same-length-8
     same-length-9
