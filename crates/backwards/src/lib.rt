@@ -8,8 +8,10 @@ ghost use Rattle.working.specs.Part.{working, Begun, held};
 ghost use Rattle.working.specs.Making.{Blank, Makes};
 use steps::Pace;
 use steps::Request;
+use steps::Sure;
 use steps::seeds;
 use working::Adjusting;
+use working::Begin;
 use working::Course;
 use working::Filled;
 use working::Generated;
@@ -48,7 +50,11 @@ fn backward_from(
         convention,
         mask: q.mask,
     };
-    let walked = walks::walk(course, room, adjusting, closed, n, work, paid, marks);
+    let begin = Begin {
+        n,
+        sure: Sure::NONE,
+    };
+    let walked = walks::walk(course, room, adjusting, closed, begin, work, paid, marks);
     match walked {
         Walked::Refused(k) => Generated::Refused(k),
         Walked::Ready { tip, tries } => {

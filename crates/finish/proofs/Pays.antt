@@ -10,7 +10,7 @@ use Prim.Native.Nat.{ℕ, zero, suc, _+_, _-_, _≤_, _<_, min, max}
 use native.Mathlib.Omega.{arith}
 use lib.ListN.{length, getD, set, take, drop, length-drop}
 use lib.Dec.{eqb}
-use lib.Seq.{drop-cons, set-split, drop-drop, drop-at, take-at, take-take, take-nil, drop-nil, length-take-le}
+use lib.Seq.{drop-drop, drop-at, take-at, take-take, take-nil, drop-nil, length-take-le}
 use borrow.Author.Needs.{needs}
 use borrow.Author.Tests.{eq-eqb, ne-eqb, eqb-true}
 use Rattle.refusal.specs.Answer.{Answer, given, refused, then}
@@ -247,10 +247,9 @@ last-stays q closed work paid what w known e some even l k =
 
 -- a place that is filled with what its date adjusts to
 one-filled : (f : ℕ → Answer ℕ) (ds ps : List ℕ) (k n y : ℕ) → n ≡ suc k → k < length ds → length ds ≡ length ps → f (getD ds k 0) ≡ given y → payBetween f k n ds ps ≡ given (set ps k y)
-unfolding payBetween each then
 one-filled f ds ps k n y e h even m =
-    let one : suc k - k ≡ 1 = omega arith in
-    rw (e, one, drop-cons ds k 0 h, m) (ap given (sym (set-split ps k y (omega arith))))
+    let s : n ≡ k + 1 = omega arith in
+    rw s (pay-one f ds ps k h even ∙ sym (then-given _ y _ _ m refl))
 
 pub known-last : (what : Move) (convention : Convention) (last : Sure) (day : ℕ) → what ≡ Adjust convention → (last .paid ≡ 0 → ⊥) → last .day ≡ day → LastKnown what last day
 known-last what convention last day e known on = record { known = known; on = on; moves = never-stays what convention e }

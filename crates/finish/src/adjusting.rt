@@ -213,7 +213,7 @@ fn pay_last(
         paid[n - 1] = last.paid;
         return Done::Whole;
     }
-    moving::pay_between(work, paid, n - 1, n, what, q.mask, closed)
+    moving::pay_at(work, paid, n - 1, what, q.mask, closed)
 }
 
 // Whether a first date that is moved so stands among the paid ones.

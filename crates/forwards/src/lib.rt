@@ -1,14 +1,15 @@
 // Forward builds, and those on twentieths and third Wednesdays: from the effective date on to termination.
-ghost use mathlib.Core.Path.{_≡_};
-ghost use lib.ListN.{length};
+ghost use Rattle.calendar.specs.Adjust.{adjusted};
 ghost use Rattle.steps.specs.Generate.{forwardFrom, forward};
-ghost use Rattle.working.specs.Part.{working, Begun};
+ghost use Rattle.working.specs.Part.{working};
+ghost use Rattle.working.specs.Turning.{Begins};
 ghost use Rattle.opening.specs.Opening.{opening};
 ghost use Rattle.working.specs.Making.{Checked, Blank, Makes};
-use opening::Opening;
+use opening::Opened;
 use steps::Request;
 use steps::seeds;
 use working::Adjusting;
+use working::Begin;
 use working::Course;
 use working::Generated;
 use working::Round;
@@ -24,13 +25,13 @@ fn forward_from(
     q: Request,
     closed: &[u32],
     room: usize,
-    n: usize,
+    begin: Begin,
     day: u32,
     work: &mut [u32],
     paid: &mut [u32],
     marks: &mut [u8],
 ) -> Generated
-    ensures { λ r. ⌜ Makes (Checked q (now (closed .entry)) × (Begun (now (closed .entry)) room n (working (now (work .entry)) (now (marks .entry))) × (length (now (paid .entry)) ≡ 4096))) q (now (closed .entry)) room (forwardFrom q (now (closed .entry)) room (opening (working (now (work .entry)) (now (marks .entry))) (n, day))) r (working (now (work .exit)) (now (marks .exit))) (now (paid .exit)) ⌝ }
+    ensures { λ r. ⌜ Makes (Checked q (now (closed .entry)) × Begins (adjusted (q .mask) (now (closed .entry)) (q .convention)) (now (closed .entry)) room begin (working (now (work .entry)) (now (marks .entry))) (now (paid .entry))) q (now (closed .entry)) room (forwardFrom q (now (closed .entry)) room (opening (working (now (work .entry)) (now (marks .entry))) (begin .n, day))) r (working (now (work .exit)) (now (marks .exit))) (now (paid .exit)) ⌝ }
 {
     let tenor = q.tenor;
     let convention = q.convention;
@@ -45,7 +46,7 @@ fn forward_from(
         convention,
         mask: q.mask,
     };
-    let walked = walks::walk(course, room, adjusting, closed, n, work, paid, marks);
+    let walked = walks::walk(course, room, adjusting, closed, begin, work, paid, marks);
     match walked {
         Walked::Refused(k) => Generated::Refused(k),
         Walked::Ready { tip, tries } => {
@@ -68,7 +69,9 @@ pub fn forward(
 {
     let opened = opening::open_forward(q, closed, room, work, marks);
     match opened {
-        Opening::Refused(k) => Generated::Refused(k),
-        Opening::Ready { n, seed } => forward_from(q, closed, room, n, seed, work, paid, marks),
+        Opened::Refused(k) => Generated::Refused(k),
+        Opened::Ready { begin, seed } => {
+            forward_from(q, closed, room, begin, seed, work, paid, marks)
+        }
     }
 }

@@ -29,6 +29,7 @@ use Rattle.working.specs.Part.{Work, Part, Placed, Begun, Fresh, held, lastDay,
 use Rattle.working.specs.Dates.{dates, regrouped}
 use Rattle.working.specs.Held.{no-room, has-room, newest-read}
 use Rattle.opening.specs.declared.Opening.the-variants as opening-is
+use Rattle.opening.specs.First.{firsts}
 use Rattle.opening.specs.Opening as opens-as
 use Rattle.opening.specs.Opening.{openedBy, opened-ready, opens}
 use Rattle.opening.proofs.Spans.{next-span}
@@ -55,7 +56,7 @@ module _ {C : Type 0} {view : C → Lists} {Keeps : C → Type 0} {r : Answer C}
     unfolding opening openingBy
     opening-credit e g = rw (sym p ∙ e) g
 
-pub ruleset first-date = (credit-earlier, credit-put, opening-effective, opening-credit, regrouped, dates, fills, fresh-part, needs)
+pub ruleset first-date = (credit-earlier, credit-put, opening-effective, opening-credit, regrouped, dates, fills, firsts, fresh-part, needs)
 
 -- ---- the coming twentieth
 near-go : (a b : Bool) → a ≡ true → b ≡ (a && b)

@@ -20,6 +20,8 @@ use Rattle.calendar.specs.declared.Convention.{Convention}
 use Rattle.calendar.specs.Open.{closedOk}
 use Rattle.calendar.specs.Adjust.{adjusted}
 use Rattle.calendar.specs.Inner.Near.{OneMonth}
+use Rattle.steps.specs.declared.Sure.{Sure}
+use Rattle.steps.specs.Sure.{Surely}
 use Rattle.steps.specs.Candidates as steps
 use Rattle.steps.specs.Candidates.{candidate, isPast, unlessSame, unlessPast, turnOf}
 use Rattle.steps.specs.Generate.{Lists, Walk, newest, put, onTurn, lastTry, walk}
@@ -29,13 +31,14 @@ use Rattle.working.specs.declared.candidates.Turn.{Turn}
 use Rattle.working.specs.declared.candidates.Turn.the-variants.{Past, Skip, Keep, Stop}
 use Rattle.working.specs.declared.walks.Walked.{Walked}
 use Rattle.working.specs.declared.walks.Walked.the-variants.{Ready, Refused}
+use Rattle.working.specs.declared.Begin.{Begin}
 use Rattle.working.specs.declared.Tip.{Tip}
 use Rattle.working.specs.Step.{seen, gives, refuses, gives-as, gives-less, was-kept}
 use Rattle.working.specs.declared.Course.{Course}
 use Rattle.working.specs.declared.candidates.Known.{Known}
 use Rattle.working.specs.Part.{Work, Part, Begun, held, lastPut, lastDay, placeOf, filled, Filling, Fills, begun}
 use Rattle.working.specs.Paying.{Paid}
-use Rattle.working.specs.Turning.{Front, Knows, told, Learnt, Compared, Starts, Started, turnOn, Looped, walked, Walking}
+use Rattle.working.specs.Turning.{Front, Knows, told, Learnt, Compared, Begins, Sized, Starts, Started, turnOn, Looped, walked, Walking}
 use Rattle.working.specs.Held.{newest-read, put-is-newest, put-dates, put-counts}
 use Rattle.working.proofs.Puts.{paid-none, paid-more, newest-first}
 
@@ -47,36 +50,60 @@ pub record Going (course : Course) (mask : ℕ) (closed : List ℕ) (convention 
   pub pays : Paid (adjusted mask closed convention) (course .back) start n (w .days) paid
   pub same : walk (turnOn course mask closed convention) room (suc SPAN-LAST - k) k (held (course .back) n w) ≡ o
 
--- ---- what is known of the newest date before the first candidate
-module _ (mask : ℕ) (closed : List ℕ) (convention : Convention) (back : Bool) (n : ℕ) (days paid : List ℕ) (s : Starts back n days paid) where
-  pub first-unknown : Started mask closed convention back n days paid (record { n = n; start = n; front = 0 })
-  first-unknown =
-      record { front = record { known = λ h. absurd (h refl) }; pays = paid-none _ back n days paid (s .paid-size) }
+-- ---- what is known before the first candidate
+-- what the newest date adjusts to
+module _ (mask : ℕ) (closed : List ℕ) (convention : Convention) (day : ℕ) where
+  pub front-sure : (sure : Sure) → Surely (adjusted mask closed convention) sure → day ≡ sure .day → Front mask closed convention (sure .paid) day
+  front-sure sure s e = record { known = λ h. ap (adjusted mask closed convention) e ∙ s .so h }
 
-  pub first-known : (day : ℕ) → (length days ≡ 4096 → n < 4097 → day ≡ lastDay back n days) → (found : Dated) → dated found ≡ adjusted mask closed convention day → (a : Date) → found ≡ dated-is.Day a → (start : ℕ) → start ≡ n - 1 → (paid′ : List ℕ) → (length paid ≡ 4096 → start < 4096 → paid′ ≡ set paid (placeOf back start) (a .day)) → Started mask closed convention back n days paid′ (record { n = n; start = start; front = a .day })
-  first-known day at found f a e start before paid′ set-so =
+  pub front-none : Front mask closed convention 0 day
+  front-none = record { known = λ h. absurd (h refl) }
+
+  pub front-found : (found : Dated) → dated found ≡ adjusted mask closed convention day → (a : Date) → found ≡ dated-is.Day a → Front mask closed convention (a .day) day
+  front-found found f a e = record { known = λ h. given-day found a _ f e }
+
+-- of n dates the newest is paid, and so are those from it on
+module _ (A : ℕ → Answer ℕ) (back : Bool) {n : ℕ} {days paid : List ℕ} (s : Sized n days paid) where
+  pub none-paid : Paid A back n n days paid
+  none-paid = paid-none A back n days paid (s .paid-size)
+
+  pub newest-paid : {start last : ℕ} → Paid A back start last days paid → n ≡ last + 1 → (day : ℕ) → (length days ≡ 4096 → n < 4097 → day ≡ lastDay back n days) → (b : ℕ) → A day ≡ given b → (paid′ : List ℕ) → (length paid ≡ 4096 → last < 4096 → paid′ ≡ set paid (placeOf back last) b) → Paid A back start n days paid′
+  newest-paid {start} {last} p more day at b known paid′ set-so =
       let most = s .most in
-      let some = s .some in
       let is : day ≡ lastDay back n days = at (s .size) (omega arith) in
-      let known : adjusted mask closed convention (lastDay back n days) ≡ given (a .day) = rw is at (given-day found a _ f e) in
-      let put : lastPut back n days ≡ lastDay back n days ∷ lastPut back start days = rw before (newest-first back days n (s .size) some most) in
+      let before : n - 1 ≡ last = omega arith in
+      let put : lastPut back n days ≡ day ∷ lastPut back last days =
+      rw (← before) (rw (← is) at (newest-first back days n (s .size) (omega arith) most)) in
+      paid-more A back day b (s .size) (omega arith) p more known put (set-so (s .paid-size) (omega arith))
+
+  pub newest-sure : (sure : Sure) → Surely A sure → (sure .paid ≡ 0 → ⊥) → (n ≡ 0 → ⊥) → (day : ℕ) → (length days ≡ 4096 → n < 4097 → day ≡ lastDay back n days) → day ≡ sure .day → (paid′ : List ℕ) → (length paid ≡ 4096 → n - 1 < 4096 → paid′ ≡ set paid (placeOf back (n - 1)) (sure .paid)) → Paid A back (n - 1) n days paid′
+  newest-sure sure known is-known some day at same paid′ set-so =
+      newest-paid (paid-none A back (n - 1) days paid (s .paid-size)) (omega arith) day at (sure .paid) (ap A same ∙ known .so is-known) paid′ set-so
+
+module _ (mask : ℕ) (closed : List ℕ) (convention : Convention) (back : Bool) (begin : Begin) (days paid : List ℕ) (s : Starts (adjusted mask closed convention) begin days paid) (day : ℕ) (at : length days ≡ 4096 → begin .n < 4097 → day ≡ lastDay back (begin .n) days) (front : ℕ) (f : Front mask closed convention front day) where
+  here : Front mask closed convention front (lastDay back (begin .n) days)
+  here = let most = s .sized .most in let is : day ≡ lastDay back (begin .n) days = at (s .sized .size) (omega arith) in rw (← is) f
+
+  pub first-unknown : Started mask closed convention back (begin .n) days paid (record { n = begin .n; start = begin .n; front = front })
+  first-unknown = record { front = here; pays = none-paid _ back (s .sized) }
+
+  pub first-known : (front ≡ 0 → ⊥) → (last start : ℕ) → last ≡ begin .n - 1 → (paid₁ : List ℕ) → ((A : ℕ → Answer ℕ) → Surely A (begin .sure) → Sized last days paid → Paid A back start last days paid₁) → (paid′ : List ℕ) → (length paid₁ ≡ 4096 → last < 4096 → paid′ ≡ set paid₁ (placeOf back last) front) → Started mask closed convention back (begin .n) days paid′ (record { n = begin .n; start = start; front = front })
+  first-known known last start before paid₁ sure-so paid′ set-so =
+      let z = s .sized in
+      let some = s .some in
+      let p = sure-so (adjusted mask closed convention) (s .sure) (record { most = omega (arith, z); size = z .size; paid-size = z .paid-size }) in
       record {
-        front = record { known = λ h. known };
-        pays =
-            paid-more (adjusted mask closed convention) back (lastDay back n days) (a .day) (s .size) (omega arith) (paid-none _ back start days paid (s .paid-size)) (omega arith) known put (set-so (s .paid-size) (omega arith));
+        front = here;
+        pays = newest-paid _ back (record { most = z .most; size = z .size; paid-size = p .size }) p (omega arith) day at front (f .known known) paid′ set-so;
       }
 
-pub starts : {closed : List ℕ} {room n : ℕ} {w : Work} {paid : List ℕ} (back : Bool) → Begun closed room n w × (length paid ≡ 4096) → Starts back n (w .days) paid
-starts back b = let t = b .0 .part in record { some = b .0 .some; most = omega (arith, t); size = t .work-size; paid-size = b .1 }
-
-pub going-start : (course : Course) (mask : ℕ) (closed : List ℕ) (convention : Convention) (room n : ℕ) (w : Work) (paid₀ paid : List ℕ) (tip : Tip) (day : ℕ) → (length (w .days) ≡ 4096 → n < 4097 → day ≡ lastDay (course .back) n (w .days)) → (closedOk closed ≡ true → Starts (course .back) n (w .days) paid₀ → Started mask closed convention (course .back) n (w .days) paid tip) → Begun closed room n w × (length paid₀ ≡ 4096) → Going course mask closed convention room (tip .start) (walk (turnOn course mask closed convention) room lastTry 1 (held (course .back) n w)) w paid n 1 (record { newest = day; front = tip .front; near = record { place = 0; from = 1; to = 0 } })
+pub going-start : (course : Course) (mask : ℕ) (closed : List ℕ) (convention : Convention) (room n : ℕ) (w : Work) (paid : List ℕ) (tip : Tip) (day : ℕ) → (length (w .days) ≡ 4096 → n < 4097 → day ≡ lastDay (course .back) n (w .days)) → Begun closed room n w → Started mask closed convention (course .back) n (w .days) paid tip → Going course mask closed convention room (tip .start) (walk (turnOn course mask closed convention) room lastTry 1 (held (course .back) n w)) w paid n 1 (record { newest = day; front = tip .front; near = record { place = 0; from = 1; to = 0 } })
 unfolding lastTry
-going-start course mask closed convention room n w paid₀ paid tip day at started b =
-    let s = started (b .0 .calendar) (starts (course .back) b) in
-    let t = b .0 .part in
+going-start course mask closed convention room n w paid tip day at b s =
+    let t = b .part in
     let is : day ≡ lastDay (course .back) n (w .days) = at (t .work-size) (omega (arith, t)) in
     record {
-      begun = b .0;
+      begun = b;
       at = newest-read (course .back) day t at;
       knows = record { front = rw is (s .front); month = record { alike = λ a b l m h. let bad : ⊥ = omega arith in absurd bad } };
       pays = s .pays;
@@ -185,10 +212,24 @@ module _ (mask : ℕ) (closed : List ℕ) (a b : Convention) (e : adjusted mask 
         pays = subst (λ (g : ℕ → Answer ℕ). Paid g back (tip .start) (tip .n) (w .days) paid) e (s .pays);
       }
 
-  pub walk-alike : (course : Course) (room fuel k : ℕ) (l : Lists) (r : Walked) (w : Work) (paid : List ℕ) → Walking mask closed a (course .back) room (walk (turnOn course mask closed a) room fuel k l) r w paid → Walking mask closed b (course .back) room (walk (turnOn course mask closed b) room fuel k l) r w paid
+  walk-alike : (course : Course) (room fuel k : ℕ) (l : Lists) (r : Walked) (w : Work) (paid : List ℕ) → Walking mask closed a (course .back) room (walk (turnOn course mask closed a) room fuel k l) r w paid → Walking mask closed b (course .back) room (walk (turnOn course mask closed b) room fuel k l) r w paid
   walk-alike course room fuel k l r w paid g =
       gives-as (ap (λ (f : ℕ → ℕ → Answer steps.Turn). walk f room fuel k l) (turn-alike course))
       (gives-less (λ t s. looped-alike (course .back) room w paid (t .0) s) g)
+
+  -- and what a date adjusts to by the one is what it adjusts to by the other
+  starts-alike : {room : ℕ} {begin : Begin} {w : Work} {paid : List ℕ} → Begins (adjusted mask closed b) closed room begin w paid → Starts (adjusted mask closed a) begin (w .days) paid
+  starts-alike {begin = begin} s =
+      let t = s .begun .part in
+      record {
+        some = s .begun .some;
+        sized = record { most = omega (arith, t); size = t .work-size; paid-size = s .paid-size };
+        sure = subst (λ (g : ℕ → Answer ℕ). Surely g (begin .sure)) (sym e) (s .sure);
+      }
+
+  pub walk-from : (course : Course) (room fuel k : ℕ) {begin : Begin} {w : Work} {paid : List ℕ} → Begins (adjusted mask closed b) closed room begin w paid → (paid₁ : List ℕ) (tip : Tip) → (closedOk closed ≡ true → Starts (adjusted mask closed a) begin (w .days) paid → Started mask closed a (course .back) (begin .n) (w .days) paid₁ tip) → (r : Walked) (w′ : Work) (paid′ : List ℕ) → (Begun closed room (begin .n) w → Started mask closed a (course .back) (begin .n) (w .days) paid₁ tip → Walking mask closed a (course .back) room (walk (turnOn course mask closed a) room fuel k (held (course .back) (begin .n) w)) r w′ paid′) → Walking mask closed b (course .back) room (walk (turnOn course mask closed b) room fuel k (held (course .back) (begin .n) w)) r w′ paid′
+  walk-from course room fuel k s paid₁ tip started r w′ paid′ g =
+      walk-alike course room fuel k _ r w′ paid′ (g (s .begun) (started (s .begun .calendar) (starts-alike s)))
 
 -- ---- lists that do not have their places
 pub unlent : (dates paid marks : ℕ) (whole : Bool) → whole ≡ (eqb dates 4096 && (eqb paid 4096 && eqb marks 4096)) → not whole ≡ true → dates ≡ 4096 → paid ≡ 4096 → marks ≡ 4096 → ⊥

@@ -10,11 +10,13 @@ use Rattle.calendar.specs.declared.Convention.{Convention}
 use Rattle.calendar.specs.Adjust.{adjusted}
 use Rattle.calendar.specs.Inner.Near.{OneMonth}
 use Rattle.steps.specs.Candidates as steps
+use Rattle.steps.specs.Sure.{Surely}
 use Rattle.steps.specs.Generate.{Lists, Walk, newest}
 use Rattle.working.specs.declared.candidates.Turn.{Turn}
 use Rattle.working.specs.declared.candidates.Turn.the-variants.{Past, Skip, Keep, Stop}
 use Rattle.working.specs.declared.walks.Walked.{Walked}
 use Rattle.working.specs.declared.walks.Walked.the-variants.{Ready, Refused}
+use Rattle.working.specs.declared.Begin.{Begin}
 use Rattle.working.specs.declared.Tip.{Tip}
 use Rattle.working.specs.Step.{Gives, Step, stops, goes-on}
 use Rattle.working.specs.declared.Course.{Course}
@@ -59,12 +61,22 @@ pub record Ahead (mask : ℕ) (closed : List ℕ) (convention : Convention) (bac
   pub begun : Begun closed room (tip .n) w
   pub front : Front mask closed convention (tip .front) (newest (held back (tip .n) w))
 
--- ---- before the walk: n dates, and what is then known of the newest
-pub record Starts (back : Bool) (n : ℕ) (days paid : List ℕ) : Type 0 where
-  pub some : 0 < n
+-- ---- before the walk: some dates, of one of which the adjusted date may be known, and what is then known of the newest
+pub record Begins (A : ℕ → Answer ℕ) (closed : List ℕ) (room : ℕ) (begin : Begin) (w : Work) (paid : List ℕ) : Type 0 where
+  pub begun : Begun closed room (begin .n) w
+  pub paid-size : length paid ≡ 4096
+  pub sure : Surely A (begin .sure)
+
+-- the dates and the paid dates have their 4,096 places
+pub record Sized (n : ℕ) (days paid : List ℕ) : Type 0 where
   pub most : n ≤ 4096
   pub size : length days ≡ 4096
   pub paid-size : length paid ≡ 4096
+
+pub record Starts (A : ℕ → Answer ℕ) (begin : Begin) (days paid : List ℕ) : Type 0 where
+  pub some : 0 < begin .n
+  pub sized : Sized (begin .n) days paid
+  pub sure : Surely A (begin .sure)
 
 pub record Started (mask : ℕ) (closed : List ℕ) (convention : Convention) (back : Bool) (n : ℕ) (days paid : List ℕ) (tip : Tip) : Type 0 where
   pub front : Front mask closed convention (tip .front) (lastDay back n days)
@@ -84,10 +96,10 @@ abbrev pub Walking : (mask : ℕ) (closed : List ℕ) (convention : Convention) 
 Walking mask closed convention back room o r w paid =
     Gives (λ t. record { lists = held back (t .0 .n) w; tries = t .1 }) (λ t. Looped mask closed convention back room w paid (t .0)) o (walked r)
 
--- the promise of the loop on lists of n dates
-abbrev pub Walks : (mask : ℕ) (closed : List ℕ) (convention : Convention) (back : Bool) (room : ℕ) (does : Lists → Answer Walk) (n : ℕ) (w : Work) (paid : List ℕ) (r : Walked) (w′ : Work) (paid′ : List ℕ) → Type 0
-Walks mask closed convention back room does n w paid r w′ paid′ =
-    Step (Begun closed room n w × (length paid ≡ 4096)) (λ t. record { lists = held back (t .0 .n) w′; tries = t .1 }) (λ t. Looped mask closed convention back room w′ paid′ (t .0)) (does (held back n w)) (walked r)
+-- the promise of the loop on lists of some dates
+abbrev pub Walks : (mask : ℕ) (closed : List ℕ) (convention : Convention) (back : Bool) (room : ℕ) (does : Lists → Answer Walk) (begin : Begin) (w : Work) (paid : List ℕ) (r : Walked) (w′ : Work) (paid′ : List ℕ) → Type 0
+Walks mask closed convention back room does begin w paid r w′ paid′ =
+    Step (Begins (adjusted mask closed convention) closed room begin w paid) (λ t. record { lists = held back (t .0 .n) w′; tries = t .1 }) (λ t. Looped mask closed convention back room w′ paid′ (t .0)) (does (held back (begin .n) w)) (walked r)
 
 -- ---- after the loop
 module _ {A D B P : Type 0} {view : Tip × ℕ → A} {Keeps : Tip × ℕ → Type 0} {view′ : D → B} {Keeps′ : D → Type 0} {o : Answer A} (f : A → Answer B) (r : Walked) {r′ : Answer D} (s : Step P view Keeps o (walked r)) where

@@ -29,6 +29,12 @@ pub struct Course {
     pub exit: u32,
 }
 
+// How many dates there are before a loop, and what one of them is known to adjust to.
+pub struct Begin {
+    pub n: usize,
+    pub sure: Sure,
+}
+
 // How many dates there are, from which on each has its paid date beside it, and the newest date's adjusted date where it is known,
 // else 0.
 pub struct Tip {

@@ -1,5 +1,6 @@
 -- `backwards::backward_from` meets its contract.
 -- Assumes nothing.
+use Rattle.steps.specs.Sure.{none-sure}
 use Rattle.steps.specs.Generate.{backwardFrom}
 use Rattle.working.specs.Step.{step-as}
 use Rattle.working.specs.Turning.{walked-stops, walked-on}
@@ -55,7 +56,7 @@ returns c =
     let seed : tie.After-seed-of = search in
     let day : tie.After-anchor-or = search in
     let start : tie.Start = search in
-    record { run = λ h. walked-stops _ _ (step-as (loop-is (start .args .q) _ _ _ _ _ _ _ _ _ _ (h .0) (seed .seed-of .ensures) (day .anchor-or .ensures) (exit .anchor-or2 .ensures)) (loop .walk .ensures)) _ (stop .walked .given .1) (h .1) (generated-is-refused _) }
+    record { run = λ h. walked-stops _ _ (step-as (loop-is (start .args .q) _ _ _ _ _ _ _ _ _ _ (h .0) (seed .seed-of .ensures) (day .anchor-or .ensures) (exit .anchor-or2 .ensures)) (loop .walk .ensures)) _ (stop .walked .given .1) (record { begun = h .1 .0; paid-size = h .1 .1; sure = none-sure _ }) (generated-is-refused _) }
 
 same-length-4 : tie.Need-same-length-4
 same-length-4 c = search needs
@@ -76,7 +77,7 @@ returns-2 c =
     let seed : tie.After-seed-of = search in
     let day : tie.After-anchor-or = search in
     let start : tie.Start = search in
-    record { run = λ h. walked-on _ _ (step-as (loop-is (start .args .q) _ _ _ _ _ _ _ _ _ _ (h .0) (seed .seed-of .ensures) (day .anchor-or .ensures) (exit .anchor-or2 .ensures)) (loop .walk .ensures)) _ _ (ready .walked2 .given .1) (h .1) (λ a. back-end-seed _ _ _ _ _ _ _ (day .anchor-or .ensures) (end .backward-end .ensures .run a)) }
+    record { run = λ h. walked-on _ _ (step-as (loop-is (start .args .q) _ _ _ _ _ _ _ _ _ _ (h .0) (seed .seed-of .ensures) (day .anchor-or .ensures) (exit .anchor-or2 .ensures)) (loop .walk .ensures)) _ _ (ready .walked2 .given .1) (record { begun = h .1 .0; paid-size = h .1 .1; sure = none-sure _ }) (λ a. back-end-seed _ _ _ _ _ _ _ (day .anchor-or .ensures) (end .backward-end .ensures .run a)) }
 
 pub backward-from-spec : {M : Type 1} → statement M
 backward-from-spec =

@@ -3,7 +3,7 @@
 use Rattle.steps.specs.Generate.{forward}
 use Rattle.working.specs.Part.{begun}
 use Rattle.working.specs.Making.{generated-is-refused}
-use Rattle.opening.specs.Opening.{opened-stops, opened-on}
+use Rattle.opening.specs.Opening.{forward-stops, forward-on}
 use borrow.Author.Needs.{needs}
 use Rattle.forwards.proofs.forward.Statement.{statement}
 use Rattle.forwards.proofs.forward.Tie as tie
@@ -35,7 +35,7 @@ unfolding forward
 returns c =
     let stop : tie.After-opened = search in
     let opened : tie.After-open-forward = search in
-    record { run = λ b. opened-stops _ _ (opened .open-forward .ensures) _ (stop .opened .given .1) (record { calendar = b .checked .calendar; part = b .part }) (generated-is-refused _) }
+    record { run = λ b. forward-stops _ _ (opened .open-forward .ensures) _ (stop .opened .given .1) (record { calendar = b .checked .calendar; part = b .part }) (generated-is-refused _) }
 
 same-length-3 : tie.Need-same-length-3
 same-length-3 c = search needs
@@ -52,7 +52,7 @@ returns-2 c =
     let rest : tie.After-forward-from = search in
     let ready : tie.After-opened2 = search in
     let opened : tie.After-open-forward = search in
-    record { run = λ b. opened-on _ _ (opened .open-forward .ensures) _ _ (ready .opened2 .given .1) (record { calendar = b .checked .calendar; part = b .part }) (λ p. rest .forward-from .ensures .run (b .checked, (begun (b .checked .calendar) p, b .paid-size))) }
+    record { run = λ b. forward-on _ _ (opened .open-forward .ensures) _ _ (ready .opened2 .given .1) (record { calendar = b .checked .calendar; part = b .part }) (λ s. rest .forward-from .ensures .run (b .checked, record { begun = begun (b .checked .calendar) (s .placed); paid-size = b .paid-size; sure = s .sure })) }
 
 pub forward-spec : {M : Type 1} → statement M
 forward-spec =

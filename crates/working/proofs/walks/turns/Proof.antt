@@ -1,6 +1,6 @@
 -- `working::walks::turns` meets its contract.
 -- Assumes nothing.
-use mathlib.Core.Path.{_≡_, refl, sym, _∙_}
+use mathlib.Core.Path.{_≡_, refl, _∙_}
 use Prim.Native.Nat.{suc, _-_, _≤_}
 use native.Mathlib.Omega.{arith}
 use lib.ListN.{length}
@@ -8,8 +8,8 @@ use Rattle.date.specs.Date.{SPAN-LAST}
 use Rattle.calendar.specs.Inner.Always.{on-as}
 use Rattle.steps.specs.Generate.{lastTry, walk}
 use Rattle.working.specs.Part.{working, Begun, held}
-use Rattle.working.specs.Turning.{turnOn}
-use Rattle.working.proofs.Walking.{Going, going-start, walk-stop, walk-past, walk-skip, walk-full, walk-keep, walk-out, walk-alike}
+use Rattle.working.specs.Turning.{Started, turnOn}
+use Rattle.working.proofs.Walking.{Going, going-start, walk-stop, walk-past, walk-skip, walk-full, walk-keep, walk-out, walk-from}
 use borrow.Author.Needs.{needs}
 use Rattle.working.proofs.walks.turns.Statement.{statement}
 use Rattle.working.proofs.walks.turns.Tie as tie
@@ -23,11 +23,11 @@ use Rattle.working.proofs.lists.put.Reads as put-reads
 use Rattle.working.proofs.walks.first_tip.Reads as first-tip-reads
 
 abbrev Inv-loop : tie.InvT-loop
-Inv-loop course room closed start work₀ paid₀ marks₀ back mask way n₀ k₀ first known₀ work paid marks n k known =
-    (k ≤ suc SPAN-LAST) × (length work ≡ length work₀) × (length paid ≡ length paid₀) × (length marks ≡ length marks₀) × (Begun closed room start (working work₀ marks₀) × (length paid₀ ≡ 4096) → Going course (way .mask) closed (way .convention) room (first .start) (walk (turnOn course (way .mask) closed (way .convention)) room lastTry 1 (held (course .back) start (working work₀ marks₀))) (working work marks) paid n k known)
+Inv-loop course room closed work₀ paid₀ marks₀ back mask way n₀ k₀ first known₀ work paid marks n k known =
+    (k ≤ suc SPAN-LAST) × (length work ≡ length work₀) × (length paid ≡ length paid₀) × (length marks ≡ length marks₀) × (Begun closed room n₀ (working work₀ marks₀) → Started (way .mask) closed (way .convention) (course .back) n₀ work₀ paid₀ first → Going course (way .mask) closed (way .convention) room (first .start) (walk (turnOn course (way .mask) closed (way .convention)) room lastTry 1 (held (course .back) n₀ (working work₀ marks₀))) (working work marks) paid n k known)
 
 abbrev μ-loop : tie.MeasureT-loop
-μ-loop course room closed start work₀ paid₀ marks₀ back mask way n₀ k₀ first known₀ work paid marks n k known =
+μ-loop course room closed work₀ paid₀ marks₀ back mask way n₀ k₀ first known₀ work paid marks n k known =
     suc SPAN-LAST - k
 
 convention-on-requires : tie.Need-convention-on-requires Inv-loop μ-loop
@@ -41,9 +41,7 @@ newest-requires c κs = search needs
 
 loop-holds : tie.Need-loop-holds Inv-loop μ-loop
 loop-holds c =
-    let long : tie.After-paid Inv-loop μ-loop = search in
-    let first : tie.After-first-tip Inv-loop μ-loop = search in
-    (omega arith, refl, refl, refl, λ b. going-start _ _ _ _ _ _ _ _ _ _ _ (c .newest .ensures) (first .first-tip .ensures) (b .0, sym (long .paid .given) ∙ b .1))
+    (omega arith, refl, refl, refl, λ b s. going-start _ _ _ _ _ _ _ _ _ _ (c .newest .ensures) b s)
 
 try-candidate-requires : tie.Need-try-candidate-requires Inv-loop μ-loop
 try-candidate-requires c κs = search needs
@@ -66,9 +64,9 @@ returns c =
     let turn : tie.After-try-candidate Inv-loop μ-loop = search in
     let test : tie.In-loop Inv-loop μ-loop = search in
     let loop : tie.At-loop Inv-loop μ-loop = search in
-    let long : tie.After-paid Inv-loop μ-loop = search in
+    let first : tie.After-first-tip Inv-loop μ-loop = search in
     let way : tie.After-convention-on Inv-loop μ-loop = search in
-    record { run = λ b. walk-alike _ _ _ _ (on-as _ _ _ _ (way .convention-on .ensures)) _ _ _ _ _ _ _ _ (walk-stop (loop .loop .inv .4 (b .0, long .paid .given ∙ b .1)) (test .loop-test .taken) _ (turn .try-candidate .ensures) _ (stop .t .given .1)) }
+    record { run = λ b. walk-from _ _ _ _ (on-as _ _ _ _ (way .convention-on .ensures)) _ _ _ _ b _ _ (first .first-tip .ensures) _ _ _ (λ p s. walk-stop (loop .loop .inv .4 p s) (test .loop-test .taken) _ (turn .try-candidate .ensures) _ (stop .t .given .1)) }
 
 enum-told : tie.Need-enum-told Inv-loop μ-loop
 enum-told c = search needs
@@ -88,9 +86,9 @@ returns-2 c =
     let turn : tie.After-try-candidate Inv-loop μ-loop = search in
     let test : tie.In-loop Inv-loop μ-loop = search in
     let loop : tie.At-loop Inv-loop μ-loop = search in
-    let long : tie.After-paid Inv-loop μ-loop = search in
+    let first : tie.After-first-tip Inv-loop μ-loop = search in
     let way : tie.After-convention-on Inv-loop μ-loop = search in
-    record { run = λ b. walk-alike _ _ _ _ (on-as _ _ _ _ (way .convention-on .ensures)) _ _ _ _ _ _ _ _ (walk-past (loop .loop .inv .4 (b .0, long .paid .given ∙ b .1)) (test .loop-test .taken) _ (turn .try-candidate .ensures) (past .enum-told .given .1)) }
+    record { run = λ b. walk-from _ _ _ _ (on-as _ _ _ _ (way .convention-on .ensures)) _ _ _ _ b _ _ (first .first-tip .ensures) _ _ _ (λ p s. walk-past (loop .loop .inv .4 p s) (test .loop-test .taken) _ (turn .try-candidate .ensures) (past .enum-told .given .1)) }
 
 enum-known-t-2 : tie.Need-enum-known-t-2 Inv-loop μ-loop
 enum-known-t-2 c = search needs
@@ -107,7 +105,7 @@ loop-again c =
     let turn : tie.After-try-candidate Inv-loop μ-loop = search in
     let test : tie.In-loop Inv-loop μ-loop = search in
     let loop : tie.At-loop Inv-loop μ-loop = search in
-    (omega (arith, test .loop-test .taken), loop .loop .inv .1, loop .loop .inv .2, loop .loop .inv .3, λ b. walk-skip (loop .loop .inv .4 b) (test .loop-test .taken) _ (turn .try-candidate .ensures) _ (skip .t2 .given .1))
+    (omega (arith, test .loop-test .taken), loop .loop .inv .1, loop .loop .inv .2, loop .loop .inv .3, λ b s. walk-skip (loop .loop .inv .4 b s) (test .loop-test .taken) _ (turn .try-candidate .ensures) _ (skip .t2 .given .1))
 
 enum-known-t-3 : tie.Need-enum-known-t-3 Inv-loop μ-loop
 enum-known-t-3 c = search needs
@@ -135,9 +133,9 @@ returns-3 c =
     let turn : tie.After-try-candidate Inv-loop μ-loop = search in
     let test : tie.In-loop Inv-loop μ-loop = search in
     let loop : tie.At-loop Inv-loop μ-loop = search in
-    let long : tie.After-paid Inv-loop μ-loop = search in
+    let first : tie.After-first-tip Inv-loop μ-loop = search in
     let way : tie.After-convention-on Inv-loop μ-loop = search in
-    record { run = λ b. walk-alike _ _ _ _ (on-as _ _ _ _ (way .convention-on .ensures)) _ _ _ _ _ _ _ _ (walk-full (loop .loop .inv .4 (b .0, long .paid .given ∙ b .1)) (test .loop-test .taken) _ (turn .try-candidate .ensures) _ (keep .t3 .given .1) _ _ (put .put .ensures) _ (full .put2 .given .1) _) }
+    record { run = λ b. walk-from _ _ _ _ (on-as _ _ _ _ (way .convention-on .ensures)) _ _ _ _ b _ _ (first .first-tip .ensures) _ _ _ (λ p s. walk-full (loop .loop .inv .4 p s) (test .loop-test .taken) _ (turn .try-candidate .ensures) _ (keep .t3 .given .1) _ _ (put .put .ensures) _ (full .put2 .given .1) _) }
 
 enum-known-put-2 : tie.Need-enum-known-put-2 Inv-loop μ-loop
 enum-known-put-2 c = search needs
@@ -163,7 +161,7 @@ loop-again-2 c =
     let work : tie.After-work Inv-loop μ-loop = search in
     let marks : tie.After-marks Inv-loop μ-loop = search in
     let paid : tie.After-paid2 Inv-loop μ-loop = search in
-    (omega (arith, test .loop-test .taken), work .work .given ∙ loop .loop .inv .1, paid .paid2 .given ∙ loop .loop .inv .2, marks .marks .given ∙ loop .loop .inv .3, λ b. walk-keep (loop .loop .inv .4 b) (test .loop-test .taken) _ (turn .try-candidate .ensures) _ (keep .t3 .given .1) _ _ (put .put .ensures) _ (ready .put3 .given .1) _ (pay .pay .ensures))
+    (omega (arith, test .loop-test .taken), work .work .given ∙ loop .loop .inv .1, paid .paid2 .given ∙ loop .loop .inv .2, marks .marks .given ∙ loop .loop .inv .3, λ b s. walk-keep (loop .loop .inv .4 b s) (test .loop-test .taken) _ (turn .try-candidate .ensures) _ (keep .t3 .given .1) _ _ (put .put .ensures) _ (ready .put3 .given .1) _ (pay .pay .ensures))
 
 same-length-10 : tie.Need-same-length-10 Inv-loop μ-loop
 same-length-10 c = search needs
@@ -177,9 +175,9 @@ same-length-12 c = search needs
 returns-4 : tie.Need-returns-4 Inv-loop μ-loop
 returns-4 c =
     let loop : tie.At-loop Inv-loop μ-loop = search in
-    let long : tie.After-paid Inv-loop μ-loop = search in
+    let first : tie.After-first-tip Inv-loop μ-loop = search in
     let way : tie.After-convention-on Inv-loop μ-loop = search in
-    record { run = λ b. walk-alike _ _ _ _ (on-as _ _ _ _ (way .convention-on .ensures)) _ _ _ _ _ _ _ _ (walk-out (loop .loop .inv .4 (b .0, long .paid .given ∙ b .1)) (c .loop-test .left)) }
+    record { run = λ b. walk-from _ _ _ _ (on-as _ _ _ _ (way .convention-on .ensures)) _ _ _ _ b _ _ (first .first-tip .ensures) _ _ _ (λ p s. walk-out (loop .loop .inv .4 p s) (c .loop-test .left)) }
 
 pub turns-spec : {M : Type 1} → statement M
 turns-spec =

@@ -15,7 +15,7 @@ are-whole-requires c κs = search needs
 returns : tie.Need-returns
 returns c =
     let whole : tie.After-are-whole = search in
-    record { run = λ b. absurd (unlent _ _ _ _ (whole .are-whole .ensures) (c .if1 .taken) (b .0 .part .work-size) (b .1) (b .0 .part .marks-size)) }
+    record { run = λ b. absurd (unlent _ _ _ _ (whole .are-whole .ensures) (c .if1 .taken) (b .begun .part .work-size) (b .paid-size) (b .begun .part .marks-size)) }
 
 turns-requires : tie.Need-turns-requires
 turns-requires c κs = search needs
