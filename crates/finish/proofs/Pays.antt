@@ -267,9 +267,11 @@ module _ (q : Request) (closed work paid : List ℕ) (what : Move) (w : what ≡
   unfolding payLast payLastOf
   last-alone e h = rw (eq-eqb (length work) 1 e, ← w) h
 
-  pub last-of-many : (length work ≡ 1 → ⊥) → done r paid₁ ≡ payBetween (moved (q .mask) closed what) (length work - 1) (length work) work paid → done r paid₁ ≡ payLast q closed work paid
+  pub last-of-many : (length work ≡ 1 → ⊥) → 1 ≤ length work → done r paid₁ ≡ payBetween (moved (q .mask) closed what) (length work - 1) (length work - 1 + 1) work paid → done r paid₁ ≡ payLast q closed work paid
   unfolding payLast payLastOf
-  last-of-many e h = rw (ne-eqb (length work) 1 e, ← w) h
+  last-of-many e some h =
+      let n : length work - 1 + 1 ≡ length work = omega arith in
+      rw (ne-eqb (length work) 1 e, ← w) (rw n at h)
 
 -- ---- the first date
 pub first-paid : (what : Move) (convention : Convention) (known : Paid) → what ≡ Adjust convention → known .from ≡ 0 → 0 < known .to → FirstPaid what known

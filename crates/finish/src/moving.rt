@@ -11,6 +11,7 @@ ghost use Rattle.finish.specs.Moving.{done};
 ghost use Rattle.finish.specs.Paying.{payBetween};
 use calendar::Convention;
 use calendar::Moved;
+use calendar::moves::date_of;
 use calendar::search;
 use date::Dated;
 use steps::Move;
@@ -21,12 +22,14 @@ pub(crate) enum Done {
     Refused(u8),
 }
 
-// A third Wednesday is asked for by itself, so that the compiler expands it in the loop, as it does not expand all that a date may become.
+// A third Wednesday is asked for by itself, so that the compiler expands it in the loop, as it does not expand all that a date may become; so is
+// an adjustment, which most single dates want.
 fn moved(day: u32, what: Move, mask: u8, closed: &[u32]) -> Dated
     ensures { λ r. ⌜ (closedOk (now (closed .entry)) ≡ true → dated r ≡ moved mask (now (closed .entry)) what day) ⌝ }
 {
     match what {
         Move::ThirdWednesdays => moves::third_wednesday(day),
+        Move::Adjust(convention) => date_of(search::adjust(day, convention, mask, closed)),
         _ => moves::moved(day, what, mask, closed),
     }
 }
@@ -171,7 +174,7 @@ pub(crate) fn pay_at(
     requires { ⌜ (at < length (now work)) × (length (now work) ≡ length (now paid)) ⌝ }
     ensures { λ r. ⌜ (closedOk (now (closed .entry)) ≡ true → done r (now (paid .exit)) ≡ payBetween (moved mask (now (closed .entry)) what) at (at + 1) (now (work .entry)) (now (paid .entry))) ⌝ }
 {
-    let next = moves::moved(work[at], what, mask, closed);
+    let next = moved(work[at], what, mask, closed);
     match next {
         Dated::Refused(n) => Done::Refused(n),
         Dated::Day(d) => {
