@@ -1,30 +1,17 @@
 // A reader for other languages: the answer of a feed as one number, and the request, where it was found, in thirteen.
 ghost use mathlib.Core.Path.{_≡_};
-ghost use Rattle.calendar.specs.Adjust.{conventionNumber};
 ghost use Rattle.crossing.specs.Answers.{yes};
 ghost use Rattle.fed.specs.Handed.{few, numbersOf, decodedNumber, numberOf, decodedWords, saidWords, Renewed, Stepped, Fed, Ended};
-use calendar::Convention;
 use crossing::answers;
 use feeding::Said;
 use period::sign;
 use request::Decoded;
 use steps::Request;
+use steps::moves;
 use steps::rules;
 
 // The reader's words.
 mod words;
-
-fn convention_number(convention: Convention) -> u32
-    ensures { λ r. ⌜ r ≡ conventionNumber convention ⌝ }
-{
-    match convention {
-        Convention::Unadjusted => 0,
-        Convention::Following => 1,
-        Convention::ModifiedFollowing => 2,
-        Convention::Preceding => 3,
-        Convention::ModifiedPreceding => 4,
-    }
-}
 
 fn flag(b: bool) -> u32
     ensures { λ r. ⌜ r ≡ yes b ⌝ }
@@ -56,9 +43,9 @@ fn numbers_of(q: Request, n: usize) -> [u32; 13]
     let asked = q.rule;
     let rule = rules::rule_number(asked);
     let middle = q.convention;
-    let convention = convention_number(middle);
+    let convention = moves::convention_number(middle);
     let last = q.terminal;
-    let terminal = convention_number(last);
+    let terminal = moves::convention_number(last);
     let monthend = flag(q.monthend);
     let closed = counted(n);
     [
@@ -68,8 +55,8 @@ fn numbers_of(q: Request, n: usize) -> [u32; 13]
         back,
         unit,
         rule as u32,
-        convention,
-        terminal,
+        convention as u32,
+        terminal as u32,
         monthend,
         q.first.day,
         q.penultimate.day,

@@ -4,17 +4,16 @@ ghost use mathlib.Core.Bool.{true};
 ghost use mathlib.Core.List.{[], _∷_};
 ghost use Prim.Native.Nat.{_+_, _*_, _≤_, _<_};
 ghost use lib.ListN.{length};
-ghost use Rattle.calendar.specs.Adjust.{conventionNumber};
 ghost use Rattle.steps.specs.Build.{over};
 ghost use Rattle.request.specs.Tags.{TENOR};
 ghost use Rattle.request.specs.Encode.{bytes4, headOf, spelt, fits16, letterOf, bit, tenorBody, datesIn, sayable, bytesOf, laid, datesPart, choicesPart, anchorsPart, closedPart};
 ghost use Rattle.request.specs.Inner.Places.{Bits};
 use crate::tags;
-use calendar::Convention;
 use period::Period;
 use period::Unit;
 use period::sign;
 use steps::Request;
+use steps::moves;
 use steps::rules;
 
 // Whether sixteen bits hold a number with its sign.
@@ -50,18 +49,6 @@ fn letter_of(unit: Unit) -> u8
         Unit::Weeks => b'W',
         Unit::Months => b'M',
         Unit::Years => b'Y',
-    }
-}
-
-fn convention_number(convention: Convention) -> u8
-    ensures { λ r. ⌜ r ≡ conventionNumber convention ⌝ }
-{
-    match convention {
-        Convention::Unadjusted => 0,
-        Convention::Following => 1,
-        Convention::ModifiedFollowing => 2,
-        Convention::Preceding => 3,
-        Convention::ModifiedPreceding => 4,
     }
 }
 
@@ -157,8 +144,13 @@ fn put_choices(q: Request, out: &mut [u8])
     let convention = q.convention;
     let terminal = q.terminal;
     put_byte(out, 20, tags::RULE, rules::rule_number(rule));
-    put_byte(out, 24, tags::CONVENTION, convention_number(convention));
-    put_byte(out, 28, tags::TERMINAL, convention_number(terminal));
+    put_byte(
+        out,
+        24,
+        tags::CONVENTION,
+        moves::convention_number(convention),
+    );
+    put_byte(out, 28, tags::TERMINAL, moves::convention_number(terminal));
     put_byte(out, 32, tags::MONTHEND, bit_of(q.monthend));
 }
 

@@ -19,7 +19,7 @@ use date::civil;
 use date::span;
 
 // Document 01's number of a convention.
-fn number_of(convention: Convention) -> u8
+pub fn convention_number(convention: Convention) -> u8
     ensures { λ r. ⌜ r ≡ conventionNumber convention ⌝ }
 {
     match convention {
@@ -34,7 +34,7 @@ fn number_of(convention: Convention) -> u8
 pub fn is_same(a: Convention, b: Convention) -> bool
     ensures { λ r. ⌜ r ≡ sameConvention a b ⌝ }
 {
-    number_of(a) == number_of(b)
+    convention_number(a) == convention_number(b)
 }
 
 pub fn third_wednesday(day: u32) -> Dated

@@ -7,7 +7,7 @@ use Rattle.fed.proofs.numbers_of.Tie as tie
 use Rattle.fed.proofs.numbers_of.Reads as reads
 use Rattle.fed.proofs.numbers_of.Lts as lts
 use Rattle.crossing.proofs.unit_number.Reads as unit-number-reads
-use Rattle.fed.proofs.convention_number.Reads as convention-number-reads
+use Rattle.steps.proofs.moves.convention_number.Reads as convention-number-reads
 use Rattle.fed.proofs.counted.Reads as counted-reads
 use Rattle.fed.proofs.flag.Reads as flag-reads
 use Rattle.period.proofs.sign.is_negative.Reads as is-negative-reads
@@ -47,6 +47,12 @@ cast-t17 c = search needs
 cast-t18 : tie.Need-cast-t18
 cast-t18 c = search needs
 
+cast-t19 : tie.Need-cast-t19
+cast-t19 c = search needs
+
+cast-t20 : tie.Need-cast-t20
+cast-t20 c = search needs
+
 returns : tie.Need-returns
 returns c = search numbers
 
@@ -65,4 +71,6 @@ numbers-of-spec =
     counted-requires
     cast-t17
     cast-t18
+    cast-t19
+    cast-t20
     returns)

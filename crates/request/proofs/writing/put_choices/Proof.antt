@@ -12,7 +12,7 @@ use Rattle.request.proofs.writing.put_choices.Tie as tie
 use Rattle.request.proofs.writing.put_choices.Reads as reads
 use Rattle.request.proofs.writing.put_choices.Lts as lts
 use Rattle.request.proofs.writing.bit_of.Reads as bit-of-reads
-use Rattle.request.proofs.writing.convention_number.Reads as convention-number-reads
+use Rattle.steps.proofs.moves.convention_number.Reads as convention-number-reads
 use Rattle.request.proofs.writing.put_byte.Reads as put-byte-reads
 use Rattle.steps.proofs.rules.rule_number.Reads as rule-number-reads
 

@@ -6,17 +6,17 @@ use Rattle.steps.proofs.moves.is_same.Statement.{statement}
 use Rattle.steps.proofs.moves.is_same.Tie as tie
 use Rattle.steps.proofs.moves.is_same.Reads as reads
 use Rattle.steps.proofs.moves.is_same.Lts as lts
-use Rattle.steps.proofs.moves.number_of.Reads as number-of-reads
+use Rattle.steps.proofs.moves.convention_number.Reads as convention-number-reads
 
-number-of-requires : tie.Need-number-of-requires
-number-of-requires c κs = search needs
+convention-number-requires : tie.Need-convention-number-requires
+convention-number-requires c κs = search needs
 
-number-of-requires-2 : tie.Need-number-of-requires-2
-number-of-requires-2 c κs = search needs
+convention-number-requires-2 : tie.Need-convention-number-requires-2
+convention-number-requires-2 c κs = search needs
 
 returns : tie.Need-returns
 unfolding sameConvention
 returns c = cc
 
 pub is-same-spec : {M : Type 1} → statement M
-is-same-spec = tie.close (tie.spec number-of-requires number-of-requires-2 returns)
+is-same-spec = tie.close (tie.spec convention-number-requires convention-number-requires-2 returns)

@@ -1,11 +1,11 @@
--- `fed::convention_number` meets its contract.
+-- `steps::moves::convention_number` meets its contract.
 -- Assumes nothing.
 use Rattle.calendar.specs.Adjust.{conventionNumber}
 use borrow.Author.Needs.{needs}
-use Rattle.fed.proofs.convention_number.Statement.{statement}
-use Rattle.fed.proofs.convention_number.Tie as tie
-use Rattle.fed.proofs.convention_number.Reads as reads
-use Rattle.fed.proofs.convention_number.Lts as lts
+use Rattle.steps.proofs.moves.convention_number.Statement.{statement}
+use Rattle.steps.proofs.moves.convention_number.Tie as tie
+use Rattle.steps.proofs.moves.convention_number.Reads as reads
+use Rattle.steps.proofs.moves.convention_number.Lts as lts
 
 enum-told : tie.Need-enum-told
 enum-told c = search needs
