@@ -38,8 +38,8 @@ use Rattle.steps.specs.declared.Sure.{Sure}
 use Rattle.steps.specs.Rules.{rules, ruleNumber, oneOf, ruleInForce, isCredit, isOldCDS}
 use Rattle.steps.specs.Finish.{each, moved, onLast, unless, firstMove, lastMove, middleMove, seedAtEnd, adjustments, wednesdaysBy, wednesdays}
 use Rattle.steps.specs.Entries.{Pairs, pairsOf}
-use Rattle.steps.specs.Same.{sameConvention, same-equal}
-use Rattle.steps.specs.Sure.{Surely}
+use Rattle.steps.specs.Inner.Same.{sameConvention, same-equal}
+use Rattle.steps.specs.Inner.Sure.{Surely}
 use Rattle.steps.specs.Laws.Parts.{each-moved, moved-on, as-many}
 use Rattle.finish.specs.declared.Paid.{Paid}
 use Rattle.finish.specs.declared.moving.Done.{Done}

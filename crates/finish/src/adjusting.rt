@@ -7,7 +7,7 @@ ghost use Rattle.calendar.specs.Open.{closedOk};
 ghost use Rattle.calendar.specs.Adjust.{adjusted};
 ghost use Rattle.steps.specs.Finish.{moved, onLast, onMiddle, firstMove, wednesdays, adjustments};
 ghost use Rattle.steps.specs.Entries.{pairsOf};
-ghost use Rattle.steps.specs.Sure.{Surely};
+ghost use Rattle.steps.specs.Inner.Sure.{Surely};
 ghost use Rattle.finish.specs.Moving.{done, paired};
 ghost use Rattle.finish.specs.Paying.{payBetween, PaidAlready, Narrowed, FirstPaid, LastPaid, LastKnown, LastKept, stillPaid, payLast, payMiddle};
 use crate::Made;

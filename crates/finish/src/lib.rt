@@ -6,7 +6,7 @@ ghost use lib.ListN.{length};
 ghost use Rattle.calendar.specs.Open.{closedOk};
 ghost use Rattle.calendar.specs.Adjust.{adjusted};
 ghost use Rattle.steps.specs.Entries.{Written};
-ghost use Rattle.steps.specs.Sure.{Surely};
+ghost use Rattle.steps.specs.Inner.Sure.{Surely};
 ghost use Rattle.finish.specs.Finishing.{acceptedBuilt, Lent, lentRefusal, completed};
 ghost use Rattle.finish.specs.Ends.{CopiedOut};
 ghost use Rattle.finish.specs.Paying.{PaidAlready};

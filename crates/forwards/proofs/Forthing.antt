@@ -21,7 +21,7 @@ use Rattle.calendar.specs.Open.{closedOk}
 use Rattle.calendar.specs.Adjust.{adjusted}
 use Rattle.steps.specs.declared.Request.{Request}
 use Rattle.steps.specs.declared.Sure.{Sure}
-use Rattle.steps.specs.Same.{sameConvention, same-equal}
+use Rattle.steps.specs.Inner.Same.{sameConvention, same-equal}
 use Rattle.steps.specs.Rules.{onTwentieths}
 use Rattle.steps.specs.Twentieths.{nextTwentieth}
 use Rattle.steps.specs.Generate.{Lists, madeForth, newest, put, putAnchor, closingDay, putClosing, closing, shut, forwardEnd}

@@ -9,8 +9,8 @@ use Rattle.calendar.specs.Adjust.{adjusted}
 use Rattle.steps.specs.declared.Request.{Request}
 use Rattle.steps.specs.declared.Sure.{Sure}
 use Rattle.steps.specs.Generate.{Lists, closing}
-use Rattle.steps.specs.Same.{sameConvention}
-use Rattle.steps.specs.Sure.{Surely}
+use Rattle.steps.specs.Inner.Same.{sameConvention}
+use Rattle.steps.specs.Inner.Sure.{Surely}
 use Rattle.working.specs.declared.Tip.{Tip}
 use Rattle.working.specs.Step.{Gives, Step, stops}
 use Rattle.working.specs.Part.{Work, Placed, held}

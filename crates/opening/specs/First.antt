@@ -11,7 +11,7 @@ use Rattle.date.specs.Date.{dated}
 use Rattle.date.specs.Laws.Made.{given-day}
 use Rattle.steps.specs.Generate.{Lists}
 use Rattle.steps.specs.declared.Sure.{Sure}
-use Rattle.steps.specs.Sure.{Surely}
+use Rattle.steps.specs.Inner.Sure.{Surely}
 use Rattle.working.specs.declared.Begin.{Begin}
 use Rattle.working.specs.declared.Filled.{Filled}
 use Rattle.working.specs.Step.{Gives, Step, seen, Kept, gives, refuses, stops, goes-on}

@@ -6,7 +6,7 @@ use mathlib.Core.Bool.{false}
 use Rattle.refusal.specs.Answer.{Answer, given, refused, then}
 use Rattle.steps.specs.Generate.{Lists, Opened}
 use Rattle.steps.specs.declared.Sure.{Sure}
-use Rattle.steps.specs.Sure.{Surely}
+use Rattle.steps.specs.Inner.Sure.{Surely}
 use Rattle.opening.specs.declared.Opened as declared
 use Rattle.opening.specs.declared.Opened.the-variants as opened-is
 use Rattle.opening.specs.declared.Opening.{Opening}

@@ -7,5 +7,4 @@ pub mod Generate
 pub mod Finish
 pub mod Build
 pub mod Entries
-pub mod Sure
-pub mod Same
+pub mod Inner

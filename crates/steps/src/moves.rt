@@ -4,7 +4,7 @@ ghost use mathlib.Core.Bool.{true};
 ghost use Rattle.date.specs.Date.{dated};
 ghost use Rattle.calendar.specs.Open.{closedOk};
 ghost use Rattle.calendar.specs.Adjust.{conventionNumber};
-ghost use Rattle.steps.specs.Same.{sameConvention};
+ghost use Rattle.steps.specs.Inner.Same.{sameConvention};
 ghost use Rattle.steps.specs.Finish.{thirdWednesday, moved, unless, firstMove, lastMove, monthEndMove, middleMove};
 use crate::Move;
 use crate::Request;

@@ -21,7 +21,7 @@ use Rattle.calendar.specs.Open.{closedOk}
 use Rattle.calendar.specs.Adjust.{adjusted}
 use Rattle.calendar.specs.Inner.Near.{OneMonth}
 use Rattle.steps.specs.declared.Sure.{Sure}
-use Rattle.steps.specs.Sure.{Surely}
+use Rattle.steps.specs.Inner.Sure.{Surely}
 use Rattle.steps.specs.Candidates as steps
 use Rattle.steps.specs.Candidates.{candidate, isPast, unlessSame, unlessPast, turnOf}
 use Rattle.steps.specs.Generate.{Lists, Walk, newest, put, onTurn, lastTry, walk}

@@ -15,7 +15,7 @@ use Rattle.calendar.specs.Adjust.{adjusted}
 use Rattle.steps.specs.declared.Request.{Request}
 use Rattle.steps.specs.Generate.{Made, madeBack}
 use Rattle.steps.specs.Finish.{each}
-use Rattle.steps.specs.Sure.{Surely, unsure, none-sure}
+use Rattle.steps.specs.Inner.Sure.{Surely, unsure, none-sure}
 use Rattle.steps.specs.Laws.Grows.{Grows}
 use Rattle.working.specs.Step.{Gives, Step, gives, gives-less}
 use Rattle.working.specs.Part.{Work, Part, Placed, held, lastPut}

@@ -10,7 +10,7 @@ use Rattle.calendar.specs.declared.Convention.{Convention}
 use Rattle.calendar.specs.Adjust.{adjusted}
 use Rattle.calendar.specs.Inner.Near.{OneMonth}
 use Rattle.steps.specs.Candidates as steps
-use Rattle.steps.specs.Sure.{Surely}
+use Rattle.steps.specs.Inner.Sure.{Surely}
 use Rattle.steps.specs.Generate.{Lists, Walk, newest}
 use Rattle.working.specs.declared.candidates.Turn.{Turn}
 use Rattle.working.specs.declared.candidates.Turn.the-variants.{Past, Skip, Keep, Stop}

@@ -5,7 +5,7 @@ ghost use Prim.Native.Nat.{ℕ};
 ghost use Rattle.refusal.specs.Answer.{Answer};
 ghost use Rattle.calendar.specs.Open.{closedOk};
 ghost use Rattle.calendar.specs.Adjust.{adjusted};
-ghost use Rattle.steps.specs.Sure.{Surely};
+ghost use Rattle.steps.specs.Inner.Sure.{Surely};
 ghost use Rattle.steps.specs.Generate.{lastTry, walk};
 ghost use Rattle.working.specs.Part.{working};
 ghost use Rattle.working.specs.Paying.{Paid};

@@ -1,6 +1,6 @@
 -- `backwards::backward_from` meets its contract.
 -- Assumes nothing.
-use Rattle.steps.specs.Sure.{none-sure}
+use Rattle.steps.specs.Inner.Sure.{none-sure}
 use Rattle.steps.specs.Generate.{backwardFrom}
 use Rattle.working.specs.Step.{step-as}
 use Rattle.working.specs.Turning.{walked-stops, walked-on}

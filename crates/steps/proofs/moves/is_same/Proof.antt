@@ -1,6 +1,6 @@
 -- `steps::moves::is_same` meets its contract.
 -- Assumes nothing.
-use Rattle.steps.specs.Same.{sameConvention}
+use Rattle.steps.specs.Inner.Same.{sameConvention}
 use borrow.Author.Needs.{needs}
 use Rattle.steps.proofs.moves.is_same.Statement.{statement}
 use Rattle.steps.proofs.moves.is_same.Tie as tie
