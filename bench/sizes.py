@@ -17,7 +17,7 @@ ROWS = [bytes([31, february, 31, 30, 31, 30, 31, 31, 30, 31, 30, 31]) for februa
 # A compiler moves a row of twelve bytes to the stack as two constants of eight that overlap.
 HALVES = sorted({row[at:at + 8] for row in ROWS for at in (0, 4)})
 # The compiler expands what costs under 250 of its units, and these are a little over it; docs/DECISIONS.md, "Months by rule".
-CALLS = "date::span::in_month", "date::Date::nth_weekday"
+CALLS = "date::span::number_in", "date::Date::nth_weekday"
 FUNCTION = 2  # a symbol's type
 
 

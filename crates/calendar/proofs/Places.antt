@@ -53,12 +53,12 @@ module _ {closed : List ℕ} {x lo hi : ℕ} (b : Bracket closed x lo hi) where
         from = λ ok k l r. b .from ok k (omega arith) r;
       }
 
--- dates before a place that are earlier than x
-pub bracket-behind : {closed : List ℕ} {x : ℕ} (place : ℕ) → (place ≡ 0 → ⊥) → place ≤ length closed → getD closed (place - 1) 0 < x → Bracket closed x place (length closed)
-bracket-behind {closed} {x} place n h c =
+-- a place whose date is not before x, behind one that is
+pub place-at : {closed : List ℕ} {x : ℕ} (place : ℕ) → Bracket closed x 0 place → (place ≡ 0 → ⊥) → getD closed (place - 1) 0 < x → LowerBound closed x place
+place-at {closed} {x} place b n c =
     let some : 1 ≤ place = omega (arith, n) in
     let e : place - 1 + 1 ≡ place = omega arith in
-    subst (λ (p : ℕ). Bracket closed x p (length closed)) e (bracket-up bracket-start (omega arith) (omega arith) c)
+    bracket-end (subst (λ (p : ℕ). Bracket closed x p place) e (bracket-up b (omega arith) (omega arith) c)) (omega arith)
 
 -- ---- the place of the next day
 module _ {closed : List ℕ} {x at : ℕ} (b : LowerBound closed x at) where

@@ -88,57 +88,26 @@ pub fn lower_bound(closed: &[u32], x: u32) -> usize
     bisect(closed, x, 0, closed.len())
 }
 
-// Whether the dates before the place are earlier than x.
-fn is_behind(closed: &[u32], x: u32, place: usize) -> bool
-    requires { ⌜ place ≤ length (now closed) ⌝ }
-    ensures { λ r. ⌜ (r ≡ true → Bracket (now (closed .entry)) x place (length (now (closed .entry)))) ⌝ }
-{
-    if place == 0 {
-        return true;
-    }
-    closed[place - 1] < x
-}
-
-// Whether a guess is the place, as that of a day near by mostly is.
-fn is_place(closed: &[u32], x: u32, guess: usize) -> bool
-    ensures { λ r. ⌜ (r ≡ true → LowerBound (now (closed .entry)) x guess) ⌝ }
-{
-    if guess < closed.len() {
-        if closed[guess] < x {
-            return false;
-        }
-        return is_behind(closed, x, guess);
-    }
-    if closed.len() < guess {
-        return false;
-    }
-    is_behind(closed, x, guess)
-}
-
-// The place, looked for from a guess: it costs the logarithm of how far the guess was off.
-fn look_near(closed: &[u32], x: u32, guess: usize) -> usize
-    ensures { λ r. ⌜ LowerBound (now (closed .entry)) x r ⌝ }
-{
-    if guess < closed.len() {
-        if closed[guess] < x {
-            return place_from(closed, x, guess + 1);
-        }
-        return place_up_to(closed, x, guess);
-    }
-    place_up_to(closed, x, closed.len())
-}
-
-// The same place from a guess.
+// The place, looked for from a guess, as that of a day near by: it costs the logarithm of how far the guess was off.
 pub fn place_near(closed: &[u32], x: u32, guess: usize) -> usize
     ensures { λ r. ⌜ LowerBound (now (closed .entry)) x r ⌝ }
 {
     if closed.len() == 0 {
         return 0;
     }
-    if is_place(closed, x, guess) {
+    if closed.len() <= guess {
+        return place_up_to(closed, x, closed.len());
+    }
+    if closed[guess] < x {
+        return place_from(closed, x, guess + 1);
+    }
+    if guess == 0 {
+        return 0;
+    }
+    if closed[guess - 1] < x {
         return guess;
     }
-    look_near(closed, x, guess)
+    place_up_to(closed, x, guess - 1)
 }
 
 // The place of the next day, from that of a day.

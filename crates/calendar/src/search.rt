@@ -12,7 +12,7 @@ ghost use Rattle.calendar.specs.Inner.Places.{LowerBound};
 ghost use Rattle.calendar.specs.Adjust.{adjusted};
 ghost use Rattle.calendar.specs.Calendar.{placed};
 ghost use Rattle.calendar.specs.Moves.{moved, movedFrom};
-ghost use Rattle.calendar.specs.Inner.Near.{OneMonth, Known, Adjusts};
+ghost use Rattle.calendar.specs.Inner.Near.{OneMonth, Known, Adjusts, Measured, Tells};
 use crate::Convention;
 use crate::Moved;
 use crate::closed_dates;
@@ -20,8 +20,8 @@ use crate::conventions;
 use crate::months;
 use crate::moves;
 use crate::scan;
+use date::Date;
 use date::Dated;
-use date::span;
 
 // What is known beside a day that was adjusted: a guess at the place of a day near it, and the first and the last of days that lie in
 // one month, none if the first is the later one.
@@ -40,8 +40,14 @@ impl Near {
     };
 }
 
-// An adjusted date, and what is then known for a day near the one that was adjusted.
-pub enum Placed {
+// What an adjustment answers, and what is then known for a day near the one that was adjusted.
+pub struct Told {
+    pub moved: Moved,
+    pub near: Near,
+}
+
+// The date that a search found, and what is then known.
+enum Placed {
     Day { day: u32, near: Near },
     Refused(u8),
 }
@@ -127,13 +133,34 @@ fn search_near(near: Near, day: u32, convention: Convention, mask: u8, closed: &
     }
 }
 
-// The date of `adjust` for one day after another, as the builder's loop compares dates: the day's place is looked for from a guess, as the place
-// that a day near it had. No move is worked out, since the loop puts the date beside its day, and the schedule tells their difference.
-pub fn adjust_near(day: u32, near: Near, convention: Convention, mask: u8, closed: &[u32]) -> Placed
-    ensures { λ r. ⌜ (closedOk (now (closed .entry)) ≡ true → OneMonth (near .from) (near .to) → Adjusts mask (now (closed .entry)) convention day r) ⌝ }
+// How far the date that was found lies from the day that it was looked for from.
+fn measure(day: u32, found: Placed, near: Near) -> Told
+    ensures { λ r. ⌜ Measured day found near r ⌝ }
+{
+    match found {
+        Placed::Day {
+            day: d,
+            near: beside,
+        } => Told {
+            moved: moves::to(day, Dated::Day(Date { day: d })),
+            near: beside,
+        },
+        Placed::Refused(n) => Told {
+            moved: Moved::Refused(n),
+            near,
+        },
+    }
+}
+
+// The adjustment for one day after another: the day's place is looked for from a guess, as the place that a day near it had.
+pub fn adjust_near(day: u32, near: Near, convention: Convention, mask: u8, closed: &[u32]) -> Told
+    ensures { λ r. ⌜ (closedOk (now (closed .entry)) ≡ true → OneMonth (near .from) (near .to) → Tells mask (now (closed .entry)) convention day r) ⌝ }
 {
     match convention {
-        Convention::Unadjusted => with_near(span::within(day as u64), near),
+        Convention::Unadjusted => Told {
+            moved: moves::stay(day),
+            near,
+        },
         _ => {
             let place = closed_dates::place_near(closed, day, near.place);
             let here = Near {
@@ -142,9 +169,12 @@ pub fn adjust_near(day: u32, near: Near, convention: Convention, mask: u8, close
                 to: near.to,
             };
             if scan::is_open_at(place, day, mask, closed) {
-                return with_near(span::within(day as u64), here);
+                return Told {
+                    moved: moves::stay(day),
+                    near: here,
+                };
             }
-            search_near(here, day, convention, mask, closed)
+            measure(day, search_near(here, day, convention, mask, closed), here)
         }
     }
 }

@@ -4,11 +4,12 @@ ghost use Prim.Native.Nat.{_+_, _/_, _%_, _^_, _<_};
 ghost use lib.Dec.{eqb};
 ghost use Rattle.calendar.specs.Open.{weeklyClosed};
 
-// The weekday, from 0 for a Monday; day 1 is one.
+// The weekday, from 0 for a Monday; day 1 is one. With whole weeks added the sum has over 32 bits: the compiler divides less than that in 32
+// bits, which takes three steps more.
 pub(crate) fn weekday_of(day: u32) -> u32
     ensures { λ r. ⌜ r ≡ (day + 6) % 7 ⌝ }
 {
-    ((day as u64 + 6) % 7) as u32
+    ((day as u64 + 30064771078) % 7) as u32
 }
 
 pub(crate) fn weekday_after(weekday: u32) -> u32

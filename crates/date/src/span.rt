@@ -29,30 +29,34 @@ pub(crate) fn least(a: u32, b: u32) -> u32
     if a < b { a } else { b }
 }
 
-// The day of a month counted as 12 * year + month - 1, or the month's last day where it is shorter. No month is shorter than 28 days,
-// so most days are numbered without a length.
-pub fn in_month(t: u64, day: u32) -> Dated
-    ensures { λ r. ⌜ dated r ≡ inMonth t day ⌝ }
+// The number of the day of a month counted as 12 * year + month - 1, or of the month's last day where it is shorter; 0 outside. No month is
+// shorter than 28 days, so most days are numbered without a length. A number comes back in a register; a date would come through memory,
+// where its two parts, written apart and read as one, hold up a loop over candidates.
+fn number_in(t: u64, day: u32) -> u32
+    ensures { λ r. ⌜ withinSpan r ≡ inMonth t day ⌝ }
 {
     if 28799 < t {
-        return Dated::Refused(refusal::BOOK);
+        return 0;
     }
     if t < 21600 {
-        return Dated::Refused(refusal::BOOK);
+        return 0;
     }
     if day < 1 {
-        return Dated::Refused(refusal::BOOK);
+        return 0;
     }
     let year = (t / 12) as u32;
     let month = (t % 12) as u32 + 1;
     if 28 < day {
-        return Dated::Day(Date {
-            day: civil::clamped_number(year, month, day),
-        });
+        return civil::clamped_number(year, month, day);
     }
-    Dated::Day(Date {
-        day: civil::day_number(year, month, day),
-    })
+    civil::day_number(year, month, day)
+}
+
+// The day of a month, or the month's last day where it is shorter.
+pub fn in_month(t: u64, day: u32) -> Dated
+    ensures { λ r. ⌜ dated r ≡ inMonth t day ⌝ }
+{
+    within(number_in(t, day) as u64)
 }
 
 // A day's own number, taken for a day of the month, is past the month's end but for days of year 1, which lie outside. With 31 in
@@ -98,7 +102,7 @@ fn shift_months(n: u32, back: bool, k: u64) -> Dated
 pub fn months_from(t: u32, back: bool, k: u32, day: u32) -> Dated
     ensures { λ r. ⌜ dated r ≡ inMonth (step back t k) day ⌝ }
 {
-    in_month(step_by(back, t as u64, k as u64), day)
+    within(number_in(step_by(back, t as u64, k as u64), day) as u64)
 }
 
 fn shift(n: u32, back: bool, k: u64, unit: Unit) -> Dated

@@ -25,8 +25,8 @@ use Rattle.calendar.specs.declared.Moved.the-variants as moved-is
 use Rattle.calendar.specs.Open.{closedOk}
 use Rattle.calendar.specs.Adjust.{adjusted}
 use Rattle.calendar.specs.Moves as moves
-use Rattle.calendar.specs.Moves.{movedFrom, dateOf}
-use Rattle.calendar.specs.Laws.Moved.{given-date}
+use Rattle.calendar.specs.Moves.{movedFrom}
+use Rattle.calendar.specs.Laws.Moved.{moved-day, moved-refused}
 use Rattle.steps.specs.declared.Move.{Move}
 use Rattle.steps.specs.declared.Move.the-variants.{ThirdWednesdays, Adjust}
 use Rattle.steps.specs.declared.Rule.{Rule}
@@ -141,17 +141,14 @@ module _ {mask : ℕ} {closed : List ℕ} {what : Move} {src dst₀ dst : List �
         }
 
 -- so where the adjustment is asked, which answers the days too
-taken : (base : ℕ) (x : Answer ℕ) (m : Moved) (d : Dated) → moves.moved m ≡ movedFrom (given base) x → dateOf (moves.moved m) ≡ dated d → dated d ≡ x
-taken base x m d h e = sym e ∙ ap dateOf h ∙ given-date base x
-
 module _ {mask : ℕ} {closed : List ℕ} {convention : Convention} {src dst₀ dst : List ℕ} {i : ℕ} (u : Beside mask closed (Adjust convention) src dst₀ dst i) (even : length src ≡ length dst₀) (h : i < length src) (m : Moved) (p : closedOk closed ≡ true → moves.moved m ≡ movedFrom (given (getD src i 0)) (adjusted mask closed convention (getD src i 0))) where
   pub adjust-refused : (n : ℕ) → m ≡ moved-is.Refused n → closedOk closed ≡ true → done (Refused n) dst ≡ each (moved mask closed (Adjust convention)) src
-  unfolding moved moves.moved dateOf dated
-  adjust-refused n e ok = beside-refused u even h (dated-is.Refused n) (λ k. taken _ _ m (dated-is.Refused n) (p k) (rw e refl)) n refl ok
+  unfolding moved dated
+  adjust-refused n e ok = beside-refused u even h (dated-is.Refused n) (λ k. sym (moved-refused _ _ m (p k) n e)) n refl ok
 
   pub adjust-moved : (d : Date) (days : ℤ) → m ≡ moved-is.Day d days → Beside mask closed (Adjust convention) src dst₀ (set dst i (d .day)) (i + 1)
-  unfolding moved moves.moved dateOf dated
-  adjust-moved d days e = beside-moved u even h (dated-is.Day d) (λ k. taken _ _ m (dated-is.Day d) (p k) (rw e refl)) d refl
+  unfolding moved dated
+  adjust-moved d days e = beside-moved u even h (dated-is.Day d) (λ k. sym (moved-day _ _ m (p k) d days e)) d refl
 
 pub ruleset besides = (beside-none, beside-whole, beside-refused, beside-moved, adjust-refused, adjust-moved, needs)
 

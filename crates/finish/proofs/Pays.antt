@@ -8,13 +8,18 @@ use mathlib.Core.List.{List, [], _∷_, _++_}
 use mathlib.Core.Logic.{_⊎_, ⊎-elim, inl, inr}
 use Prim.Native.Nat.{ℕ, zero, suc, _+_, _-_, _≤_, _<_, min, max}
 use native.Mathlib.Omega.{arith}
-use lib.ListN.{length, getD, take, drop, set, length-drop}
+use lib.ListN.{length, getD, set, take, drop, length-drop}
 use lib.Dec.{eqb}
-use lib.Seq.{drop-cons, set-split, drop-drop, drop-at, take-at, take-take, take-nil, drop-nil, length-take-le}
+use lib.Seq.{drop-drop, drop-at, take-at, take-take, take-nil, drop-nil, length-take-le}
 use borrow.Author.Needs.{needs}
 use borrow.Author.Tests.{eq-eqb, ne-eqb, eqb-true}
 use Rattle.refusal.specs.Answer.{Answer, given, refused, then}
-use Rattle.refusal.specs.Laws.Answers.{then-stepped, one-given}
+use Rattle.refusal.specs.Laws.Answers.{then-given, then-refused, then-stepped, one-given}
+use Rattle.date.specs.declared.Date.{Date}
+use Rattle.date.specs.declared.Dated.{Dated}
+use Rattle.date.specs.declared.Dated.the-variants as dated-is
+use Rattle.date.specs.Date.{dated}
+use Rattle.date.specs.Laws.Made.{given-day, refused-day}
 use Rattle.calendar.specs.declared.Convention.{Convention}
 use Rattle.calendar.specs.declared.Decided.{Decided}
 use Rattle.calendar.specs.declared.Decided.the-variants as decided-is
@@ -41,7 +46,7 @@ use Rattle.finish.specs.declared.moving.Done.{Done}
 use Rattle.finish.specs.declared.moving.Done.the-variants.{Whole, Refused}
 use Rattle.finish.specs.Moving.{done, paired}
 use Rattle.finish.specs.Paying.{payBetween, PaidAlready, Narrowed, FirstPaid, LastPaid, LastKnown, LastKept, paidIf, stillPaid, payLastOf, payLast, payMiddle, paying}
-use Rattle.finish.specs.Laws.Paying.{paid-stays, pay-around, paying-is}
+use Rattle.finish.specs.Laws.Paying.{pay-one, paid-stays, pay-around, paying-is}
 use Rattle.finish.proofs.Moves.{done-refused, done-on}
 
 -- ---- which of the middle dates are paid
@@ -56,6 +61,21 @@ narrowed-none n last known l = record { first = omega arith; order = omega arith
 pub none-paid : (f : ℕ → Answer ℕ) (a : ℕ) (ds ps : List ℕ) → PaidAlready f a a ds ps
 unfolding each
 none-paid f a ds ps = let z : a - a ≡ 0 = omega arith in record { so = rw z refl }
+
+-- and nothing is to be filled in
+pub pays-none : (f : ℕ → Answer ℕ) (a b : ℕ) (ds ps : List ℕ) → a ≡ b → b ≤ length ds → length ds ≡ length ps → done Whole ps ≡ payBetween f a b ds ps
+unfolding done
+pays-none f a b ds ps e h even = rw (← e) (sym (paid-stays f ds ps a a a (omega arith) (omega arith) (omega (arith, e, h)) even (none-paid f a ds ps)))
+
+-- ---- one date
+module _ (f : ℕ → Answer ℕ) (at : ℕ) (ds ps : List ℕ) (h : at < length ds) (even : length ds ≡ length ps) (next : Dated) (p : dated next ≡ f (getD ds at 0)) where
+  pub one-moved : (d : Date) → next ≡ dated-is.Day d → done Whole (set ps at (d .day)) ≡ payBetween f at (at + 1) ds ps
+  unfolding done
+  one-moved d e = sym (pay-one f ds ps at h even ∙ sym (then-given _ (d .day) _ _ (given-day next d _ p e) refl))
+
+  pub one-refused : (n : ℕ) (ps′ : List ℕ) → next ≡ dated-is.Refused n → done (Refused n) ps′ ≡ payBetween f at (at + 1) ds ps
+  unfolding done
+  one-refused n ps′ e = sym (pay-one f ds ps at h even ∙ sym (then-refused _ n _ (refused-day next n _ p e)))
 
 -- some of those that are paid
 module _ (f : ℕ → Answer ℕ) where
@@ -227,10 +247,9 @@ last-stays q closed work paid what w known e some even l k =
 
 -- a place that is filled with what its date adjusts to
 one-filled : (f : ℕ → Answer ℕ) (ds ps : List ℕ) (k n y : ℕ) → n ≡ suc k → k < length ds → length ds ≡ length ps → f (getD ds k 0) ≡ given y → payBetween f k n ds ps ≡ given (set ps k y)
-unfolding payBetween each then
 one-filled f ds ps k n y e h even m =
-    let one : suc k - k ≡ 1 = omega arith in
-    rw (e, one, drop-cons ds k 0 h, m) (ap given (sym (set-split ps k y (omega arith))))
+    let s : n ≡ k + 1 = omega arith in
+    rw s (pay-one f ds ps k h even ∙ sym (then-given _ y _ _ m refl))
 
 pub known-last : (what : Move) (convention : Convention) (last : Sure) (day : ℕ) → what ≡ Adjust convention → (last .paid ≡ 0 → ⊥) → last .day ≡ day → LastKnown what last day
 known-last what convention last day e known on = record { known = known; on = on; moves = never-stays what convention e }
@@ -248,9 +267,11 @@ module _ (q : Request) (closed work paid : List ℕ) (what : Move) (w : what ≡
   unfolding payLast payLastOf
   last-alone e h = rw (eq-eqb (length work) 1 e, ← w) h
 
-  pub last-of-many : (length work ≡ 1 → ⊥) → done r paid₁ ≡ payBetween (moved (q .mask) closed what) (length work - 1) (length work) work paid → done r paid₁ ≡ payLast q closed work paid
+  pub last-of-many : (length work ≡ 1 → ⊥) → 1 ≤ length work → done r paid₁ ≡ payBetween (moved (q .mask) closed what) (length work - 1) (length work - 1 + 1) work paid → done r paid₁ ≡ payLast q closed work paid
   unfolding payLast payLastOf
-  last-of-many e h = rw (ne-eqb (length work) 1 e, ← w) h
+  last-of-many e some h =
+      let n : length work - 1 + 1 ≡ length work = omega arith in
+      rw (ne-eqb (length work) 1 e, ← w) (rw n at h)
 
 -- ---- the first date
 pub first-paid : (what : Move) (convention : Convention) (known : Paid) → what ≡ Adjust convention → known .from ≡ 0 → 0 < known .to → FirstPaid what known

@@ -119,9 +119,9 @@ fn pay_unpaid(
     ensures { λ r. ⌜ (closedOk (now (closed .entry)) ≡ true → PaidAlready (moved mask (now (closed .entry)) what) (known .from) (known .to) (now (work .entry)) (now (paid .entry)) → done r (now (paid .exit)) ≡ payBetween (moved mask (now (closed .entry)) what) 1 (1 + (length (now (work .entry)) - 2)) (now (work .entry)) (now (paid .entry))) ⌝ }
 {
     let end = middle_end(work.len());
-    let early = moving::pay_between(work, paid, 1, known.from, what, mask, closed);
+    let early = moving::pay_some(work, paid, 1, known.from, what, mask, closed);
     match early {
-        Done::Whole => moving::pay_between(work, paid, known.to, end, what, mask, closed),
+        Done::Whole => moving::pay_some(work, paid, known.to, end, what, mask, closed),
         Done::Refused(k) => Done::Refused(k),
     }
 }
@@ -213,7 +213,7 @@ fn pay_last(
         paid[n - 1] = last.paid;
         return Done::Whole;
     }
-    moving::pay_between(work, paid, n - 1, n, what, q.mask, closed)
+    moving::pay_at(work, paid, n - 1, what, q.mask, closed)
 }
 
 // Whether a first date that is moved so stands among the paid ones.
@@ -235,7 +235,7 @@ fn pay_first(q: Request, closed: &[u32], known: Paid, work: &[u32], paid: &mut [
     if is_first_paid(what, known) {
         return Done::Whole;
     }
-    moving::pay_between(work, paid, 0, 1, what, q.mask, closed)
+    moving::pay_at(work, paid, 0, what, q.mask, closed)
 }
 
 // The paid dates of what was generated. Those that are known stay.

@@ -9,10 +9,10 @@ ghost use Rattle.working.specs.Turning.{Knows, Compared, turnOn};
 ghost use Rattle.working.specs.Paces.{pace};
 use crate::Adjusting;
 use crate::Course;
+use calendar::Moved;
 use calendar::moves;
 use calendar::search;
 use calendar::search::Near;
-use calendar::search::Placed;
 use date::Dated;
 use date::span;
 use period::Period;
@@ -109,14 +109,13 @@ fn compare(day: u32, known: Known, adjusting: Adjusting, closed: &[u32]) -> Turn
         }
     }
     let near = known.near;
-    let moved = search::adjust_near(day, near, convention, adjusting.mask, closed);
+    let told = search::adjust_near(day, near, convention, adjusting.mask, closed);
+    let beside = told.near;
+    let moved = told.moved;
     match moved {
-        Placed::Refused(n) => Turn::Stop(n),
-        Placed::Day {
-            day: b,
-            near: beside,
-        } => {
-            if held == b {
+        Moved::Refused(n) => Turn::Stop(n),
+        Moved::Day { date, days } => {
+            if held == date.day {
                 return Turn::Skip(Known {
                     newest,
                     front: held,
@@ -125,7 +124,7 @@ fn compare(day: u32, known: Known, adjusting: Adjusting, closed: &[u32]) -> Turn
             }
             Turn::Keep(Known {
                 newest: day,
-                front: b,
+                front: date.day,
                 near: beside,
             })
         }

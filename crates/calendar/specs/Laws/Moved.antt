@@ -5,7 +5,10 @@ use mathlib.Core.Path.{_≡_, refl, sym, ap, _∙_}
 use mathlib.Core.Bool.{Bool, true, false, not}
 use lib.IntN.{ℤ}
 use Rattle.refusal.specs.Answer.{Answer, given, refused, need, then}
-use Rattle.calendar.specs.Moves.{movedFrom, dateOf}
+use Rattle.date.specs.declared.Date.{Date}
+use Rattle.calendar.specs.declared.Moved.{Moved}
+use Rattle.calendar.specs.declared.Moved.the-variants as moved-is
+use Rattle.calendar.specs.Moves.{moved, movedFrom, dateOf}
 use Rattle.calendar.specs.Laws.Guards.{barred, cleared}
 
 module _ (base : Answer ℕ) where
@@ -43,6 +46,16 @@ given-date base (refused n) = refl
 -- the date that was taken out of what an adjustment answered
 pub took : (base : ℕ) (date a : Answer ℕ) (m : Answer (ℕ × ℤ)) → a ≡ dateOf m → m ≡ movedFrom (given base) date → a ≡ date
 took base date a m e h = e ∙ ap dateOf h ∙ given-date base date
+
+-- by the case that it was
+module _ (base : ℕ) (date : Answer ℕ) (m : Moved) (h : moved m ≡ movedFrom (given base) date) where
+  pub moved-day : (d : Date) (days : ℤ) → m ≡ moved-is.Day d days → date ≡ given (d .day)
+  unfolding moved dateOf
+  moved-day d days e = sym (given-date base date) ∙ sym (ap dateOf h) ∙ rw e refl
+
+  pub moved-refused : (n : ℕ) → m ≡ moved-is.Refused n → date ≡ refused n
+  unfolding moved dateOf
+  moved-refused n e = sym (given-date base date) ∙ sym (ap dateOf h) ∙ rw e refl
 
 -- a base that is a day, whenever there is a date
 pub record Gives {A : Type 0} (x : Answer A) : Type 0 where

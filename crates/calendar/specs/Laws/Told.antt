@@ -11,11 +11,8 @@ use Rattle.calendar.specs.declared.Checked.{Checked}
 use Rattle.calendar.specs.declared.Checked.the-variants as checked-is
 use Rattle.calendar.specs.declared.Decided.{Decided}
 use Rattle.calendar.specs.declared.Decided.the-variants as decided-is
-use Rattle.calendar.specs.declared.search.Near.{Near}
-use Rattle.calendar.specs.declared.search.Placed.{Placed}
-use Rattle.calendar.specs.declared.search.Placed.the-variants as placed-is
 use Rattle.calendar.specs.Open.{closedOk, calendarOk}
-use Rattle.calendar.specs.Calendar.{Sound, sound, checked, decided, placed, checkOf}
+use Rattle.calendar.specs.Calendar.{Sound, sound, checked, decided, checkOf}
 
 -- a sound calendar's list keeps its rule
 pub ok-closed : (mask : ℕ) (closed : List ℕ) → calendarOk mask closed ≡ true → closedOk closed ≡ true
@@ -50,12 +47,3 @@ module _ (r : Decided) (a : Answer Bool) (h : decided r ≡ a) where
   pub told-refused : (n : ℕ) → r ≡ decided-is.Refused n → a ≡ refused n
   unfolding decided
   told-refused n e = sym h ∙ rw e
-
-module _ (r : Placed) (a : Answer ℕ) (h : placed r ≡ a) where
-  pub placed-day : (day : ℕ) (near : Near) → r ≡ placed-is.Day day near → a ≡ given day
-  unfolding placed
-  placed-day day near e = sym h ∙ rw e
-
-  pub placed-refused : (n : ℕ) → r ≡ placed-is.Refused n → a ≡ refused n
-  unfolding placed
-  placed-refused n e = sym h ∙ rw e

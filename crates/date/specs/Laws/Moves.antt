@@ -1,7 +1,7 @@
 -- Laws of the functions that move a date, in the shape that the proofs of the code want.
 -- Assumes nothing.
 use Prim.Native.Nat.{ℕ, zero, suc, _+_, _-_, _*_, _/_, _%_, _≤_, _<_, min}
-use mathlib.Core.Path.{_≡_, refl, ap, sym}
+use mathlib.Core.Path.{_≡_, refl, ap, sym, _∙_}
 use mathlib.Core.Bool.{Bool, true, false, false≢true, cond}
 use native.Mathlib.Omega.{arith}
 use lib.Dec.{leb, ltb}
@@ -19,7 +19,7 @@ use Rattle.date.specs.Date.{SPAN-FIRST, SPAN-LAST, inBook, makeOf, withi
 use Rattle.date.specs.Laws.Years.{years-few}
 use Rattle.date.specs.Laws.Round.{Valid, fields-valid}
 use Rattle.date.specs.Laws.Months.{length-le, length-ge}
-use Rattle.date.specs.Laws.Made.{make-early, make-late, make-day-0, make-ok}
+use Rattle.date.specs.Laws.Made.{make-early, make-late, make-day-0, make-ok, made, made-within}
 
 -- what a call gave as fields has the laws of fields
 pub valid-at : (f : Fields) (n : ℕ) → f ≡ fieldsOf n → Valid (f .year) (f .month) (f .day)
@@ -89,6 +89,17 @@ module _ (t d len k : ℕ) (l : len ≡ monthLength (t / 12) (t % 12 + 1)) (m : 
   month-day a b e n q =
       let g = length-ge (t / 12) (t % 12 + 1) (omega arith) in
       rw (← l, ← m) (make-ok _ _ _ (omega arith) (omega arith) (omega arith) (omega arith) (omega arith) (omega arith) n q)
+
+-- a number that tells the day, or that there is none
+module _ (t d n : ℕ) where
+  pub month-within : given n ≡ inMonth t d → withinSpan n ≡ inMonth t d
+  unfolding inMonth
+  month-within h =
+      let w = made-within (t / 12) (t % 12 + 1) _ n (made (t / 12) (t % 12 + 1) _ n (sym h)) in
+      sym (span-in n (w .0) (w .1)) ∙ h
+
+  pub month-outside : n < SPAN-FIRST → refused BOOK ≡ inMonth t d → withinSpan n ≡ inMonth t d
+  month-outside l h = sym (span-early n l) ∙ h
 
 -- ---- weekdays
 pub weekday-small : (n : ℕ) → weekdayOf n ≤ 7

@@ -1,14 +1,14 @@
 -- Paid dates beside the generated ones: filled in by parts, they are what 01's adjustments make of the dates.
 -- Assumes nothing.
 use Prim.Native.Nat.{ℕ, zero, suc, _+_, _-_, _≤_, _<_}
-use mathlib.Core.Path.{_≡_, refl, sym, ap, _∙_}
+use mathlib.Core.Path.{_≡_, refl, sym, ap, _∙_, fun-ext}
 use mathlib.Core.Bool.{Bool, true, false}
 use mathlib.Core.List.{List, [], _∷_, _++_, append-assoc, append-nil}
 use native.Mathlib.Omega.{arith}
 use lib.Dec.{eqb}
 use borrow.Author.Tests.{ne-eqb}
-use lib.ListN.{length, take, drop, length-append, length-take, length-drop, take-append-drop}
-use lib.Seq.{take-append-seam, drop-append-seam, drop-append-add, take-at, drop-at, drop-drop, take-add, length-take-le, take-all, drop-append-le}
+use lib.ListN.{length, getD, set, take, drop, length-append, length-take, length-drop, take-append-drop}
+use lib.Seq.{drop-cons, set-split, take-append-seam, drop-append-seam, drop-append-add, take-at, drop-at, drop-drop, take-add, length-take-le, take-all, drop-append-le}
 use Rattle.refusal.specs.Answer.{Answer, given, refused, then}
 use Rattle.steps.specs.declared.Request.{Request}
 use Rattle.steps.specs.Finish.{each, moved, onFirst, onLast, onMiddle, firstMove, lastMove, middleMove, seedAtEnd, adjustments}
@@ -42,6 +42,15 @@ module _ (f : ℕ → Answer ℕ) where
   pay-last xs t zs w e =
       let n = length-append xs (t ∷ []) in
       pay-parts xs (t ∷ []) [] zs (w ∷ []) [] (length (xs ++ (t ∷ [])) - 1) (length (xs ++ (t ∷ []))) e refl (omega (arith, n)) (omega (arith, n)) ∙ each-one t (λ us. given (zs ++ (us ++ [])))
+
+  -- one date
+  pub pay-one : (ds ps : List ℕ) (at : ℕ) → at < length ds → length ds ≡ length ps → payBetween f at (at + 1) ds ps ≡ then (f (getD ds at 0)) (λ y. given (set ps at y))
+  unfolding payBetween
+  pay-one ds ps at h even =
+      let k : at + 1 - at ≡ 1 = omega arith in
+      let n : at + 1 ≡ suc at = omega arith in
+      let one : (y : ℕ) → take at ps ++ (y ∷ drop (suc at) ps) ≡ set ps at y = λ y. sym (set-split ps at y (omega arith)) in
+      rw (k, n, drop-cons ds at 0 h) (each-one (getD ds at 0) (λ ys. given (take at ps ++ (ys ++ drop (suc at) ps))) ∙ ap (then (f (getD ds at 0))) (fun-ext (λ y. ap given (one y))))
 
   filled : (ds ps : List ℕ) (a b : ℕ) (xs : List ℕ) → each f (take (b - a) (drop a ds)) ≡ given xs → payBetween f a b ds ps ≡ given (take a ps ++ (xs ++ drop b ps))
   unfolding payBetween then

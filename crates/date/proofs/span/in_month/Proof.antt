@@ -1,64 +1,23 @@
 -- `date::span::in_month` meets its contract.
 -- Assumes nothing.
-use mathlib.Core.Path.{refl}
-use native.Mathlib.Omega.{arith}
-use Rattle.date.specs.Date.{dated}
-use Rattle.date.specs.Laws.Moves.{month-early, month-late, month-day-0, month-day}
-use Rattle.date.proofs.Ends.{not-over}
+use mathlib.Core.Path.{_∙_}
 use borrow.Author.Needs.{needs}
 use Rattle.date.proofs.span.in_month.Statement.{statement}
 use Rattle.date.proofs.span.in_month.Tie as tie
-use Rattle.date.proofs.span.in_month.Reads as reads
-use Rattle.date.proofs.span.in_month.Lts as lts
-use Rattle.date.proofs.civil.clamped_number.Reads as clamped-number-reads
-use Rattle.date.proofs.civil.day_number.Reads as day-number-reads
+
+number-in-requires : tie.Need-number-in-requires
+number-in-requires c κs = search needs
+
+cast-within : tie.Need-cast-within
+cast-within c = search needs
+
+within-requires : tie.Need-within-requires
+within-requires c κs = search needs
 
 returns : tie.Need-returns
-unfolding dated
-returns c = search (month-late, needs)
-
-returns-2 : tie.Need-returns-2
-unfolding dated
-returns-2 c = search (month-early, needs)
-
-returns-3 : tie.Need-returns-3
-unfolding dated
-returns-3 c = search (month-day-0, needs)
-
-cast-year : tie.Need-cast-year
-cast-year c = search needs
-
-cast-month : tie.Need-cast-month
-cast-month c = search needs
-
-add-month : tie.Need-add-month
-add-month c = search needs
-
-clamped-number-requires : tie.Need-clamped-number-requires
-clamped-number-requires c κs = search needs
-
-returns-4 : tie.Need-returns-4
-unfolding dated
-returns-4 c = month-day _ _ _ _ refl refl (omega arith) (omega arith) (omega arith) _ (c .clamped-number .ensures)
-
-day-number-requires : tie.Need-day-number-requires
-day-number-requires c κs = search needs
-
-returns-5 : tie.Need-returns-5
-unfolding dated
-returns-5 c = month-day _ _ _ _ refl (not-over _ _ _ (omega arith) (omega arith)) (omega arith) (omega arith) (omega arith) _ (c .day-number .ensures)
+returns c =
+    let number : tie.After-number-in = search in
+    c .within .ensures ∙ number .number-in .ensures
 
 pub in-month-spec : {M : Type 1} → statement M
-in-month-spec =
-    tie.close
-    (tie.spec
-    returns
-    returns-2
-    returns-3
-    cast-year
-    cast-month
-    add-month
-    clamped-number-requires
-    returns-4
-    day-number-requires
-    returns-5)
+in-month-spec = tie.close (tie.spec number-in-requires cast-within within-requires returns)

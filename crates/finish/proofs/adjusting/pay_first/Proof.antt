@@ -7,7 +7,7 @@ use Rattle.finish.proofs.adjusting.pay_first.Tie as tie
 use Rattle.finish.proofs.adjusting.pay_first.Reads as reads
 use Rattle.finish.proofs.adjusting.pay_first.Lts as lts
 use Rattle.finish.proofs.adjusting.is_first_paid.Reads as is-first-paid-reads
-use Rattle.finish.proofs.moving.pay_between.Reads as pay-between-reads
+use Rattle.finish.proofs.moving.pay_at.Reads as pay-at-reads
 use Rattle.steps.proofs.moves.first_move.Reads as first-move-reads
 
 first-move-requires : tie.Need-first-move-requires
@@ -24,18 +24,18 @@ returns c =
     let start : tie.Start = search in
     λ ok k. first-stays (start .args .q) _ _ _ (start .pre .0) (start .pre .1) _ (what .first-move .ensures) _ (first .is-first-paid .ensures (test .if1 .taken)) k
 
-pay-between-requires : tie.Need-pay-between-requires
-pay-between-requires c κs = search needs
+pay-at-requires : tie.Need-pay-at-requires
+pay-at-requires c κs = search needs
 
 same-length : tie.Need-same-length
 same-length c = search needs
 
 returns-2 : tie.Need-returns-2
 returns-2 c =
-    let paid : tie.After-pay-between = search in
+    let paid : tie.After-pay-at = search in
     let what : tie.After-first-move = search in
     let start : tie.Start = search in
-    λ ok k. first-moves (start .args .q) _ _ _ (start .pre .0) (start .pre .1) _ (what .first-move .ensures) _ _ (paid .pay-between .ensures ok)
+    λ ok k. first-moves (start .args .q) _ _ _ (start .pre .0) (start .pre .1) _ (what .first-move .ensures) _ _ (paid .pay-at .ensures ok)
 
 pub pay-first-spec : {M : Type 1} → statement M
 pay-first-spec =
@@ -44,6 +44,6 @@ pay-first-spec =
     first-move-requires
     is-first-paid-requires
     returns
-    pay-between-requires
+    pay-at-requires
     same-length
     returns-2)

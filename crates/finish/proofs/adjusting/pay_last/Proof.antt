@@ -9,7 +9,7 @@ use Rattle.finish.proofs.adjusting.pay_last.Lts as lts
 use Rattle.finish.proofs.adjusting.is_last_known.Reads as is-last-known-reads
 use Rattle.finish.proofs.adjusting.is_last_paid.Reads as is-last-paid-reads
 use Rattle.finish.proofs.adjusting.move_last.Reads as move-last-reads
-use Rattle.finish.proofs.moving.pay_between.Reads as pay-between-reads
+use Rattle.finish.proofs.moving.pay_at.Reads as pay-at-reads
 use Rattle.steps.proofs.moves.last_move.Reads as last-move-reads
 
 last-move-requires : tie.Need-last-move-requires
@@ -73,21 +73,22 @@ returns-3 c =
     let start : tie.Start = search in
     λ ok k s. last-known (start .args .q) _ _ _ _ (what .last-move .ensures) _ (many .if1 .left) (start .pre .0) (start .pre .1) (last .is-last-known .ensures (test .if3 .taken)) s
 
-sub-pay-between : tie.Need-sub-pay-between
-sub-pay-between c = search needs
+sub-pay-at : tie.Need-sub-pay-at
+sub-pay-at c = search needs
 
-pay-between-requires : tie.Need-pay-between-requires
-pay-between-requires c κs = search needs
+pay-at-requires : tie.Need-pay-at-requires
+pay-at-requires c κs = search needs
 
 same-length-3 : tie.Need-same-length-3
 same-length-3 c = search needs
 
 returns-4 : tie.Need-returns-4
 returns-4 c =
-    let paid : tie.After-pay-between = search in
+    let paid : tie.After-pay-at = search in
     let test : tie.Else1 = search in
     let what : tie.After-last-move = search in
-    λ ok k s. last-of-many _ _ _ _ _ (what .last-move .ensures) _ _ (test .if1 .left) (paid .pay-between .ensures ok)
+    let start : tie.Start = search in
+    λ ok k s. last-of-many _ _ _ _ _ (what .last-move .ensures) _ _ (test .if1 .left) (start .pre .0) (paid .pay-at .ensures ok)
 
 pub pay-last-spec : {M : Type 1} → statement M
 pay-last-spec =
@@ -108,7 +109,7 @@ pay-last-spec =
     slice-write-paid
     same-length-2
     returns-3
-    sub-pay-between
-    pay-between-requires
+    sub-pay-at
+    pay-at-requires
     same-length-3
     returns-4)

@@ -9,9 +9,7 @@ use Rattle.refusal.specs.Answer.{given}
 use Rattle.date.specs.Laws.Made.{given-day}
 use Rattle.calendar.specs.Open.{closedOk}
 use Rattle.calendar.specs.Adjust.{adjusted}
-use Rattle.calendar.specs.Inner.Near.{known-near}
-use Rattle.calendar.specs.Laws.Moved.{took}
-use Rattle.calendar.specs.Laws.Told.{placed-day, placed-refused}
+use Rattle.calendar.specs.Laws.Moved.{took, moved-day, moved-refused}
 use Rattle.working.specs.Turning.{Front}
 use Rattle.working.proofs.Turns.{compare-stop, compare-closed, compare-skip, compare-keep}
 use borrow.Author.Needs.{needs}
@@ -70,21 +68,21 @@ returns-2 c =
     let b : tie.After-moved2 = search in
     let a : tie.After-adjust-near = search in
     let join : tie.Joined1 = search in
-    λ ok k. compare-skip _ _ _ _ _ _ (held join ok (k .front)) _ _ (placed-day _ _ (a .adjust-near .ensures ok (k .month) .says) _ _ (b .moved2 .given .1)) (known-near _ _ _ (a .adjust-near .ensures ok (k .month) .known) (b .moved2 .given .1)) (c .if2 .taken)
+    λ ok k. compare-skip _ _ _ _ _ _ (held join ok (k .front)) _ _ (moved-day _ _ _ (a .adjust-near .ensures ok (k .month) .says) (b .moved2 .given .0 .0) _ (b .moved2 .given .1)) (a .adjust-near .ensures ok (k .month) .known) (c .if2 .taken)
 
 returns-3 : tie.Need-returns-3
 returns-3 c =
     let stop : tie.After-moved = search in
     let a : tie.After-adjust-near = search in
     let join : tie.Joined1 = search in
-    λ ok k. compare-closed _ _ _ _ _ _ (held join ok (k .front)) _ (placed-refused _ _ (a .adjust-near .ensures ok (k .month) .says) _ (stop .moved .given .1))
+    λ ok k. compare-closed _ _ _ _ _ _ (held join ok (k .front)) _ (moved-refused _ _ _ (a .adjust-near .ensures ok (k .month) .says) _ (stop .moved .given .1))
 
 returns-4 : tie.Need-returns-4
 returns-4 c =
     let b : tie.After-moved2 = search in
     let a : tie.After-adjust-near = search in
     let join : tie.Joined1 = search in
-    λ ok k. compare-keep _ _ _ _ _ _ (held join ok (k .front)) _ _ (placed-day _ _ (a .adjust-near .ensures ok (k .month) .says) _ _ (b .moved2 .given .1)) (known-near _ _ _ (a .adjust-near .ensures ok (k .month) .known) (b .moved2 .given .1)) (c .if2 .left)
+    λ ok k. compare-keep _ _ _ _ _ _ (held join ok (k .front)) _ _ (moved-day _ _ _ (a .adjust-near .ensures ok (k .month) .says) (b .moved2 .given .0 .0) _ (b .moved2 .given .1)) (a .adjust-near .ensures ok (k .month) .known) (c .if2 .left)
 
 pub compare-spec : {M : Type 1} → statement M
 compare-spec =
