@@ -29,6 +29,16 @@ def of_calls(program, words, questions):
     return [n for n in counts if n]
 
 
+def of_source(name):
+    """The counts of bench/NAME.c, which asks itself, with the static library that bindings/build has made."""
+    root = os.path.dirname(os.path.dirname(os.path.abspath(__file__)))
+    program = os.path.join(root, "target", name)
+    build = f". tools/x86.sh && x86_link gcc {program} -O2 -Iinclude bench/{name}.c target/staticlib/libcapi.a"
+    subprocess.run(["bash", "-c", build], cwd=root, check=True)
+    with open(os.devnull) as nothing:
+        return of_calls(program, [], nothing)
+
+
 def started(words, questions, **more):
     return subprocess.Popen(words, stdin=questions, stdout=subprocess.DEVNULL, env={**os.environ, **COUNTING}, **more)
 

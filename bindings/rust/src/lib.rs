@@ -788,16 +788,13 @@ impl Schedule {
 
     /// What a build leaves in the lists that are lent to it.
     fn lent(room: usize, build: impl FnOnce(&mut [u32], &mut [u8], &mut [u32], &mut [u32; 7]) -> i64) -> Answer<Schedule> {
-        let mut dates = vec![0u32; room];
-        let mut flags = vec![0u8; room];
-        let mut unadjusted = vec![0u32; room];
+        let mut lists = Lists::new(room);
         let mut record = [0u32; 7];
-        let count = told(build(&mut dates, &mut flags, &mut unadjusted, &mut record))? as usize;
-        let given = |list: &[u32]| list[..count].iter().map(|&n| Date(n)).collect();
+        let count = told(build(&mut lists.dates, &mut lists.flags, &mut lists.unadjusted, &mut record))? as usize;
         Ok(Schedule {
-            dates: given(&dates),
-            unadjusted: given(&unadjusted),
-            regular: flags[..count.saturating_sub(1)].iter().map(|&flag| flag == 1).collect(),
+            dates: dates_of(&lists.dates[..count]),
+            unadjusted: dates_of(&lists.unadjusted[..count]),
+            regular: lists.regular(0, count),
             tries: record[2],
             rule: RULES[record[3] as usize],
             tenor: record[4],
@@ -805,6 +802,28 @@ impl Schedule {
             moved: record[6],
         })
     }
+}
+
+/// The lists that a call writes schedules into.
+struct Lists {
+    dates: Vec<u32>,
+    flags: Vec<u8>,
+    unadjusted: Vec<u32>,
+}
+
+impl Lists {
+    fn new(room: usize) -> Lists {
+        Lists { dates: vec![0; room], flags: vec![0; room], unadjusted: vec![0; room] }
+    }
+
+    /// Whether each of the periods between `count` dates is regular, the first date being at `start`.
+    fn regular(&self, start: usize, count: usize) -> Vec<bool> {
+        self.flags[start..start + count.saturating_sub(1)].iter().map(|&flag| flag == 1).collect()
+    }
+}
+
+fn dates_of(numbers: &[u32]) -> Vec<Date> {
+    numbers.iter().map(|&n| Date(n)).collect()
 }
 
 /// A schedule of a book: paid dates, for each the date before adjustment, for each period whether it is regular, and the tries.
@@ -825,31 +844,28 @@ pub fn book(requests: &[&[u8]], room: usize) -> Answer<Vec<Answer<Booked>>> {
         whole.extend_from_slice(&size.to_be_bytes());
         whole.extend_from_slice(request);
     }
-    let mut dates = vec![0u32; room];
-    let mut flags = vec![0u8; room];
-    let mut unadjusted = vec![0u32; room];
+    let mut lists = Lists::new(room);
     let mut answers = vec![0u32; 4 * requests.len()];
     told(unsafe {
         ffi::heronspan_book(
             whole.as_ptr(),
             whole.len(),
-            dates.as_mut_ptr(),
-            dates.len(),
-            flags.as_mut_ptr(),
-            flags.len(),
-            unadjusted.as_mut_ptr(),
-            unadjusted.len(),
+            lists.dates.as_mut_ptr(),
+            lists.dates.len(),
+            lists.flags.as_mut_ptr(),
+            lists.flags.len(),
+            lists.unadjusted.as_mut_ptr(),
+            lists.unadjusted.len(),
             answers.as_mut_ptr(),
             answers.len(),
         )
     })?;
     let schedule = |answer: &[u32]| {
-        let (start, end) = (answer[1] as usize, (answer[1] + answer[0]) as usize);
-        let given = |list: &[u32]| list[start..end].iter().map(|&n| Date(n)).collect();
+        let (count, start) = (answer[0] as usize, answer[1] as usize);
         told(-i64::from(answer[3])).map(|_| Booked {
-            dates: given(&dates),
-            unadjusted: given(&unadjusted),
-            regular: flags[start..end.saturating_sub(1).max(start)].iter().map(|&flag| flag == 1).collect(),
+            dates: dates_of(&lists.dates[start..start + count]),
+            unadjusted: dates_of(&lists.unadjusted[start..start + count]),
+            regular: lists.regular(start, count),
             tries: answer[2],
         })
     };
