@@ -13,7 +13,7 @@
  * A list is a pointer and the count of its elements. A list of no elements may be a null pointer. Lists that are written to
  * overlap with no other list of the call.
  *
- * Every function is proved to do what the definition that its contract names says (crates/capi). */
+ * Every function is proved to do what the definition that its contract names says (crates/capi, which crates/capi_c exports). */
 #ifndef HERONSPAN_H
 #define HERONSPAN_H
 

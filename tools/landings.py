@@ -1,12 +1,12 @@
 #!/usr/bin/env python3
 """The figures of a landing, by crate, for docs/LANDINGS.md.
 
-    tools/landings.py BEFORE [LOG]
+    tools/landings.py BEFORE
 
-BEFORE is the commit that the landing starts from; LOG is what `./test` wrote, for the check times. Only crates whose lines changed
-are given, each figure as before and after where the two differ, and the sums over all crates. Lines are those that are neither empty
-nor a comment nor an import. Definitions are functions, records and types of specs/ and proofs/; laws are the other declarations
-there; proofs are the files proofs/**/Proof.antt.
+BEFORE is the commit that the landing starts from. Only crates whose lines changed are given, each figure as before and after where
+the two differ, and the sums over all crates. Lines are those that are neither empty nor a comment nor an import. Definitions are
+functions, records and types of specs/ and proofs/; laws are the other declarations there; proofs are the files Invariants.antt,
+Answers.antt and Proof.antt of proofs/.
 """
 import glob
 import os
@@ -17,6 +17,7 @@ import tempfile
 
 ROOT = os.path.dirname(os.path.dirname(os.path.abspath(__file__)))
 DEFINES = ("unfoldable", "abbrev", "pub record", "record", "pub data", "data")
+PROOFS = ("Invariants.antt", "Answers.antt", "Proof.antt")
 PASSES = ("--", "//", "use ", "ghost use ", "pub mod ", "mod ")
 
 
@@ -40,13 +41,6 @@ def split(path):
     return counts
 
 
-def times(log):
-    if log is None:
-        return {}
-    with open(log) as f:
-        return {m[1]: int(m[2]) for m in re.finditer(r"^rt: (\w+) proved \((\d+) s\)", f.read(), re.M)}
-
-
 def functions(path):
     with open(path) as f:
         text = f.read()
@@ -57,12 +51,12 @@ def figures(root):
     """Of each crate: lines of definitions, laws, code and proofs; functions, public ones, and wrong programs of the gate."""
     found = {}
     with open(os.path.join(root, "crates.txt")) as f:
-        names = [line.split(":")[0].strip() for line in f if line.strip() and not line.startswith("#")]
+        names = [re.match(r"\w+", line)[0] for line in f if line.strip() and not line.startswith("#")]
     for name in names:
         crate = os.path.join(root, "crates", name)
         spoken = [path for part in ("specs", "proofs") for path in glob.glob(f"{crate}/{part}/**/*.antt", recursive=True)]
-        parts = [split(path) for path in spoken if not path.endswith("/Proof.antt")]
-        proofs = sum(len(list(lines(path))) for path in spoken if path.endswith("/Proof.antt"))
+        parts = [split(path) for path in spoken if os.path.basename(path) not in PROOFS]
+        proofs = sum(len(list(lines(path))) for path in spoken if os.path.basename(path) in PROOFS)
         sources = glob.glob(f"{crate}/src/*.rt")
         counts = [functions(path) for path in sources]
         found[name] = [sum(a for a, _ in parts), sum(b for _, b in parts), sum(len(list(lines(path))) for path in sources), proofs,
@@ -77,23 +71,23 @@ def at(commit):
         return figures(folder)
 
 
-def row(name, old, new, took):
+def row(name, old, new):
     cells = [str(b) if a == b else f"{a} → {b}" for a, b in zip(old, new)]
-    return f"| {name} | " + " | ".join(cells) + f" | {took} |"
+    return f"| {name} | " + " | ".join(cells) + " |"
 
 
 def main():
     if len(sys.argv) < 2:
         sys.exit(__doc__)
-    old, new, took = at(sys.argv[1]), figures(ROOT), times(sys.argv[2] if len(sys.argv) > 2 else None)
+    old, new = at(sys.argv[1]), figures(ROOT)
     none = [0] * 7
-    print("| crate | definitions | laws | code | proofs | functions | public | edits | check |")
-    print("|---|---|---|---|---|---|---|---|---|")
+    print("| crate | definitions | laws | code | proofs | functions | public | edits |")
+    print("|---|---|---|---|---|---|---|---|")
     for name in [*new, *(name for name in old if name not in new)]:
         if old.get(name, none) != new.get(name, none):
-            print(row(name, old.get(name, none), new.get(name, none), took.get(name, "")))
+            print(row(name, old.get(name, none), new.get(name, none)))
     sums = [[sum(column) for column in zip(*rows.values())] for rows in (old, new)]
-    print(row("all", *sums, sum(took.values()) or ""))
+    print(row("all", *sums))
 
 
 main()

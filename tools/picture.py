@@ -26,7 +26,7 @@ def groups():
     for block in blocks:
         lines = [line for line in block.splitlines() if line.strip()]
         said = " ".join(line.lstrip("# ") for line in lines if line.startswith("#"))
-        crates = [line.split(":") for line in lines if not line.startswith("#")]
+        crates = [re.match(r"(\w+)[^:]*:(.*)", line).groups() for line in lines if not line.startswith("#")]
         if crates:
             found.append((re.split(r"[:.]", said)[0], [name for name, _ in crates]))
             rests.update({name: words.split() for name, words in crates})

@@ -34,7 +34,7 @@ def camel(name):
 
 
 def definitions(rows):
-    return "".join("abbrev pub {0} : ℕ\n{0} = {1}\n\n".format(name.replace("_", "-"), number) for number, name, _ in rows)
+    return "".join(f"abbrev pub {name} : ℕ\n{name} = {number}\n\n" for number, name, _ in rows)
 
 
 def constants(rows):

@@ -6,8 +6,9 @@
 
 Ends with status 1 and a line for each public function that has a `requires`, no `ensures`, or fewer than two wrong programs
 that its statement rules out, and for each wrong program of no public function; and, unless docs/EXCEPTIONS.md names it, for each
-that promises under a premise, and for each list that is lent to be written whose exit its statement does not speak of. A function
-is public if it is `pub fn` in the root of a library or in modules that are `pub mod` all the way; programs have none.
+that promises under a premise, and for each list that is lent to be written whose exit its statement does not speak of; and for each
+function of `capi` that `capi_c` does not export to C under its name, with its parameters and its statement. A function is public if it
+is `pub fn` in the root of a library or in modules that are `pub mod` all the way; programs have none, and neither has `capi_c`.
 """
 import glob
 import os
@@ -19,10 +20,11 @@ LISTED = os.path.join(ROOT, "docs", "STATEMENTS.md")
 EXCEPTIONS = os.path.join(ROOT, "docs", "EXCEPTIONS.md")
 HEAD = """# Statements
 
-Every public function, its statement, and the file that it stands in; made by tools/statements.py from the sources. `r` is
-the answer, `x .entry` and `x .exit` what is lent before the call and after it. A name with a capital is a record of facts, any
-other a function; both are defined in the crate's specs/, or in those of a crate below it. What is ruled out is named by the
-edits of the crate's must-fail/ and wrong/ that make the answer wrong; each must be refused (tools/wrong).
+Every public function, its statement, and the file that it stands in; made by tools/statements.py from the sources. `result` is
+the answer, `x.now` what is lent to be read, `x.old` and `x.new` what is lent to be written, before the call and after it. A name
+with a capital is a fact or a record of facts, any other a function; both are defined in the crate's specs/, or in those of a crate
+below it. What is ruled out is named by the edits of the crate's must-fail/ and wrong/ that make the answer wrong; each must be
+refused (tools/wrong).
 """
 
 
@@ -31,7 +33,7 @@ def crates():
         for line in f:
             line = line.split("#")[0].strip()
             if line:
-                yield line.split(":")[0]
+                yield re.match(r"\w+", line)[0]
 
 
 def read(crate, module):
@@ -53,6 +55,8 @@ def modules(crate):
 
 FUNCTION = re.compile(r"^(?P<in> *)pub (?:extern \"C\" )?fn (?P<name>\w+)(?P<rest>.*?)^(?P=in)\{", re.M | re.S)
 IMPL = re.compile(r"^impl (\w+) \{", re.M)
+# What stands in a clause's braces; where there are several, each has a name.
+CLAUSE = re.compile(r"^ *(requires|ensures)(?: \w+)? \{(.*?)\}$", re.M | re.S)
 
 
 def functions():
@@ -62,9 +66,19 @@ def functions():
                 owner = place
                 if found["in"]:
                     owner = f"{place}::{[m[1] for m in IMPL.finditer(text, 0, found.start())][-1]}"
-                clauses = re.findall(r"^ *(requires|ensures) \{ (.*) \}$", found["rest"], re.M)
-                lent = re.findall(r"(\w+): &(?:'\w+ )?mut ", found["rest"])
+                clauses = [(kind, " ".join(text.split())) for kind, text in CLAUSE.findall(found["rest"])]
+                lent = re.findall(r"(\w+): &(?:'\w+ )?mut |&(?:'\w+ )?mut (self)\b", found["rest"])
+                lent = [name or itself for name, itself in lent]
                 yield crate, f"{owner}::{found['name']}", path, clauses, lent
+
+
+def declared(crate):
+    """Each function of the files of a crate: its parameters, answer and clauses, however they are laid out."""
+    found = {}
+    for path in glob.glob(os.path.join(ROOT, "crates", crate, "src", "*.rt")):
+        with open(path) as f:
+            found.update({it["name"]: re.sub(r"\s+|,\s*(?=\))", "", it["rest"]) for it in FUNCTION.finditer(f.read())})
+    return found
 
 
 def ruled_out():
@@ -75,13 +89,6 @@ def ruled_out():
             for name in sorted(set(re.findall(r"^# of (.*)$", f.read(), re.M))):
                 named.setdefault(name, []).append(os.path.basename(path)[: -len(".edit")])
     return named
-
-
-def shown(clause):
-    """A clause without its marks."""
-    clause = re.sub(r"^λ (\w+)\. ", "", clause)
-    clause = re.sub(r"^⌜ (.*) ⌝$", r"\1", clause)
-    return re.sub(r"\(now \((\w+) \.(entry|exit)\)\)|now \((\w+) \.(entry|exit)\)", lambda m: f"({m[1] or m[3]} .{m[2] or m[4]})", clause)
 
 
 def stepped():
@@ -111,9 +118,9 @@ def main():
         count += 1
         kinds = [kind for kind, _ in clauses]
         promise = " ".join(text for kind, text in clauses if kind == "ensures")
-        if " → " in promise or any(shown(text).split(" ")[0] in steps for _, text in clauses):
+        if " → " in promise or any(text.split(" ")[0] in steps for _, text in clauses):
             under.add(name)
-        silent |= {f"{name}: {part}" for part in lent if f"({part} .exit)" not in promise}
+        silent |= {f"{name}: {part}" for part in lent if not re.search(rf"\b{part}\.new\b", promise)}
         if "requires" in kinds:
             faults.append(f"{path}: {name} has a `requires`")
         if "ensures" not in kinds:
@@ -121,7 +128,7 @@ def main():
         if crate != former:
             out.append(f"\n## {crate}\n\n")
             former = crate
-        said = "; ".join(f"`{shown(text)}`" for kind, text in clauses if kind == "ensures")
+        said = "; ".join(f"`{text}`" for kind, text in clauses if kind == "ensures")
         edits = wrong.pop(name, [])
         if len(edits) < 2:
             faults.append(f"{path}: {name} has fewer than two wrong programs")
@@ -132,6 +139,9 @@ def main():
     faults += [f"{part} is lent, and its exit is not spoken of" for part in sorted(silent - unsaid)]
     faults += [f"docs/EXCEPTIONS.md names {part}, whose exit is spoken of" for part in sorted(unsaid - silent)]
     faults += [f"{name} has wrong programs ({', '.join(edits)}) and is no public function" for name, edits in wrong.items()]
+    inside, outside = declared("capi"), declared("capi_c")
+    faults += [f"crates/capi_c does not export {name} as crates/capi has it" for name in sorted(inside) if outside.get(name) != inside[name]]
+    faults += [f"crates/capi_c exports {name}, which crates/capi has not" for name in sorted(outside) if name not in inside]
     text = "".join(out)
     if "--check" in sys.argv:
         with open(LISTED) as f:

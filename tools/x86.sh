@@ -10,7 +10,7 @@
 #     x86_python FOLDER                   makes FOLDER/python3, for machines that are not x86-64 themselves
 #
 # On x86-64 these are the machine's own compilers. On Arm they are Debian's packages below, which x86_ready installs if it
-# may, and the programs run on Debian's emulator.
+# may, and the programs run on Debian's emulator. Today's toolchain, which builds the archive, runs on x86-64 alone.
 
 if [ "$(uname -m)" = x86_64 ]; then
     x86_prefix= x86_suffix= x86_run= x86_release=release

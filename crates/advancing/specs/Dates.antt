@@ -38,13 +38,13 @@ once k = omega arith
 
 unfoldable in_days_lem : (u : Unit) → InDays u → Counts shift_days u
 unfolding shifted
-in_days_lem Days days_are = record { each = 1; as_shift = λ n back k. ap (shift_days n back) (once k) }
-in_days_lem Weeks weeks_are = record { each = 7; as_shift = λ n back k. refl }
+in_days_lem u days_are = record { each = 1; as_shift = λ n back k. ap (shift_days n back) (once k) }
+in_days_lem u weeks_are = record { each = 7; as_shift = λ n back k. refl }
 
 unfoldable in_months : (u : Unit) → InMonths u → Counts shift_months u
 unfolding shifted
-in_months Months months_are = record { each = 1; as_shift = λ n back k. ap (shift_months n back) (once k) }
-in_months Years years_are = record { each = 12; as_shift = λ n back k. refl }
+in_months u months_are = record { each = 1; as_shift = λ n back k. ap (shift_months n back) (once k) }
+in_months u years_are = record { each = 12; as_shift = λ n back k. refl }
 
 module _ {shift : ℕ → Bool → ℕ → Answer ℕ} {u : Unit} (c : Counts shift u) where
   from_book : (d m : ℕ) (a : ℤ) → advance_of d a u ≡ given m → (in_book d ≡ true) × (shift d (is_negative a) (c.each * nat_abs a) ≡ given m)

@@ -1,8 +1,10 @@
 // Walks every day from 1800-01-01 to 2399-12-31 through the functions of `date`, and prints a digest of their answers for
 // each year. What it must print is made from another calendar (tools/almanac.py).
+#![tactic(auto)]
+
 use date::{Compared, Counted, Date, Dated, Numbered, Split, civil, span};
-use libc::STDOUT_FILENO;
 use period::Unit;
+use std::io;
 
 // The digest of the values so far and one more.
 fn fold(digest: u32, value: u32) -> u32 {
@@ -129,11 +131,10 @@ fn digest_of_year(year: u32) -> u32 {
     }
 }
 
-fn main() {
+fn main(rt: HostRuntime) -> io::Result<()> {
     for year in 1800..2400u32 {
-        io::print_decimal(STDOUT_FILENO, year as u64);
-        io::write_all(STDOUT_FILENO, b" ");
-        io::print_decimal(STDOUT_FILENO, digest_of_year(year) as u64);
-        io::write_all(STDOUT_FILENO, b"\n");
+        let digest = digest_of_year(year);
+        println!(rt; "{year} {digest}")?;
     }
+    Ok(())
 }

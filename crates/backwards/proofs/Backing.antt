@@ -1,23 +1,19 @@
 -- A law for each way through a backward build.
 -- Assumes nothing.
 use mathlib.Core.Path.{◌≡◌, refl, ◌∙◌}
-use mathlib.Core.Bool.{Bool, true}
+use mathlib.Core.Bool.{true}
 use mathlib.Core.List.{List}
 use Prim.Native.Nat.{ℕ, zero, suc, ◌≤◌, ◌<◌}
 use borrow.Author.Rules.{rules}
-use borrow.Author.Tests.{eq-eqb, ne_eqb}
 use Rattle.refusal.specs.Answer.{Answer, need, then, ROOM}
 use Rattle.refusal.specs.Laws.Answers.{fails, holds}
-use Rattle.calendar.specs.declared.Convention.{Convention}
 use Rattle.steps.specs.declared.Pace.{Pace}
 use Rattle.steps.specs.declared.Seed.{Seed}
 use Rattle.steps.specs.declared.Request.{Request}
 use Rattle.steps.specs.Rules.{pace_of}
-use Rattle.steps.specs.Table.{is_given}
 use Rattle.steps.specs.Candidates.{candidate, seed_of}
-use Rattle.steps.specs.Generate.{Lists, Made, nothing, put, has_room_in, put_penultimate, anchor_or, begun, backward_end}
+use Rattle.steps.specs.Generate.{Lists, Made, nothing, put, has_room_in, put_penultimate, begun, backward_end}
 use Rattle.steps.specs.Finish.{same_flag}
-use Rattle.working.specs.declared.Tip.{Tip}
 use Rattle.working.specs.declared.Filled.TheVariants as Filled-is
 use Rattle.working.specs.Step.{Gives, gives, refuses, gives_as}
 use Rattle.working.specs.Part.{Work, Part, Placed, held, filled, Filling, fills}

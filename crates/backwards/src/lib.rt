@@ -1,4 +1,6 @@
 // Backward builds: from termination back to the effective date.
+#![tactic(auto)]
+
 ghost use Rattle.std.specs.Prelude.{◌≡◌, true, length};
 ghost use Rattle.steps.specs.Rules.{pace_of};
 ghost use Rattle.steps.specs.Generate.{backward_from, backward};

@@ -2,23 +2,22 @@
 -- Assumes nothing.
 use Prim.Native.Nat.{ℕ, ◌/◌, ◌≤◌, ◌<◌}
 use mathlib.Core.Path.{◌≡◌, refl, ap, sym, ◌∙◌}
-use mathlib.Core.Bool.{Bool, true, false, ◌&&◌}
+use mathlib.Core.Bool.{true, ◌&&◌}
 use mathlib.Core.List.{List}
 use native.Mathlib.Omega.{arith}
-use lib.Dec.{eqb, leb}
+use lib.Dec.{eqb}
 use lib.ListN.{length}
 use borrow.Author.Rules.{rules}
 use borrow.Author.Tests.{eq-eqb, ne_eqb, le-leb, lt-leb}
-use Rattle.refusal.specs.Answer.{Answer, given, refused, then, UNEVEN, BATCH}
+use Rattle.refusal.specs.Answer.{Answer, given, refused, UNEVEN, BATCH}
 use Rattle.refusal.specs.Laws.Answers.{fails, holds, then_given, then_refused}
-use Rattle.book.specs.declared.Booked.{Booked}
 use Rattle.book.specs.declared.Booked.TheVariants as booked-is
 use Rattle.book.specs.declared.framing.Framed.{Framed}
 use Rattle.book.specs.declared.framing.Framed.TheVariants as framed_is
 use Rattle.book.specs.Framing.{requests_in}
 use Rattle.book.specs.Book.{Lists, lists, book_of, answered, lists_after, Books}
 use Rattle.book.specs.Inner.Framed.{framed}
-use Rattle.book.specs.Inner.Turns.{Even, Ready}
+use Rattle.book.specs.Inner.Turns.{Ready}
 
 -- what the count of the requests tells
 record Whole (o : Answer (List (List ℕ))) (n : ℕ) : Type 0 where

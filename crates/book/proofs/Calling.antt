@@ -11,7 +11,7 @@ use lib.ListN.{length, take, drop}
 use borrow.Author.Rules.{rules}
 use borrow.Author.Tests.{eqb-true, eqb-false}
 use Rattle.refusal.specs.Answer.{Answer, given, refused, then}
-use Rattle.refusal.specs.Laws.Answers.{then_given, then_refused}
+use Rattle.refusal.specs.Laws.Answers.{then_given}
 use Rattle.steps.specs.declared.Request.{Request}
 use Rattle.steps.specs.declared.Built.{Built}
 use Rattle.steps.specs.Build.{answered, dates_after, flags_after}
@@ -20,7 +20,7 @@ use Rattle.outcomes.specs.Refusals.{never_zero}
 use Rattle.outcomes.specs.Uneven.{uneven_exactly, refused_as_before}
 use Rattle.request.specs.declared.Decoded.{Decoded}
 use Rattle.request.specs.declared.Decoded.TheVariants as decoded-is
-use Rattle.request.specs.Format.{Asked, decoded}
+use Rattle.request.specs.Format.{decoded}
 use Rattle.request.specs.Decode.{Decodes}
 use Rattle.request.specs.Laws.Held.{read_fits, held, unread, closed_part_lem}
 use Rattle.book.specs.declared.calls.Single.{Single}

@@ -6,14 +6,13 @@ use mathlib.Core.Bool.{Bool, true, false}
 use mathlib.Core.List.{List, [], ◌∷◌, ◌++◌, append_assoc, append-nil}
 use native.Mathlib.Omega.{arith}
 use lib.Dec.{leb}
-use lib.ListN.{length, take, drop, get_or, length-drop, length-append}
+use lib.ListN.{length, drop, get_or, length-drop, length-append}
 use lib.Seq.{get_or-drop, drop-drop}
 use borrow.Author.Tests.{le-leb, lt-leb, leb-true}
 use borrow.Author.Rules.{rules}
 use Rattle.refusal.specs.Answer.{Answer, given, refused, need, then, BATCH}
-use Rattle.refusal.specs.Laws.Answers.{holds, fails}
-use Rattle.request.specs.Format.{two, pick}
-use Rattle.book.specs.declared.framing.Framed.{Framed}
+use Rattle.refusal.specs.Laws.Answers.{holds}
+use Rattle.request.specs.Format.{pick}
 use Rattle.book.specs.declared.framing.Framed.TheVariants.{Whole, Refused}
 use Rattle.book.specs.Framing.{MOST, size_of, body_of, behind, unless_cut, or_none, requests_from, requests_in}
 use Rattle.book.specs.Inner.Framed.{framed, Byte, SizeAt, end_from, end_of}

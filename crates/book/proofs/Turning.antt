@@ -1,6 +1,6 @@
 -- A request's turn, and the loop over the requests: a law for each way.
 -- Assumes nothing.
-use Prim.Native.Nat.{ℕ, zero, suc, ◌+◌, ◌-◌, ◌*◌, ◌/◌, ◌≤◌, ◌<◌, min}
+use Prim.Native.Nat.{ℕ, suc, ◌+◌, ◌-◌, ◌*◌, ◌/◌, ◌≤◌, ◌<◌, min}
 use mathlib.Core.Path.{◌≡◌, refl, ap, sym, subst, ◌∙◌}
 use mathlib.Core.List.{List, [], ◌∷◌, ◌++◌, append-nil}
 use native.Mathlib.Omega.{arith}
@@ -8,13 +8,13 @@ use native.Mathlib.Numerals.{add-one}
 use lib.ListN.{length, take, drop, set, length-drop, length-set}
 use lib.Seq.{take_all, drop-drop}
 use borrow.Author.Rules.{rules}
-use borrow.Rule.Slice.PartMut.{put_mid, post_of, Post-is}
+use borrow.Rule.Slice.PartMut.{put_mid, Post-is}
 use Rattle.refusal.specs.Answer.{Answer, given, refused}
 use Rattle.steps.specs.Build.{over, dates_after, flags_after}
 use Rattle.steps.specs.Entries.{Entries, paid_of, unadjusted_after}
 use Rattle.book.specs.declared.calls.Single.{Single}
 use Rattle.book.specs.declared.calls.Single.TheVariants.{Built, Refused}
-use Rattle.book.specs.Framing.{MOST, size_of, body_of, behind, requests_from, requests_in}
+use Rattle.book.specs.Framing.{size_of, body_of, behind, requests_from, requests_in}
 use Rattle.book.specs.Book.{call_of, call_in, count_of, four_numbers, Lists, lists, on_part, turned, on_call, booked, lists_after}
 use Rattle.book.specs.Laws.Framing.{Took, took, none_left}
 use Rattle.book.specs.Laws.Counts.{count_fits}

@@ -1,4 +1,6 @@
 // A night's book: up to 64 requests, each led by a two-byte length, built one after another into one lent set of lists.
+#![tactic(auto)]
+
 ghost use Rattle.std.specs.Prelude.{◌≡◌, length};
 ghost use Rattle.book.specs.Book.{book_of, lists, Books};
 

@@ -1,4 +1,6 @@
 // A night's book whose answer is one number, for other languages.
+#![tactic(auto)]
+
 ghost use Rattle.std.specs.Prelude.{◌≡◌, length};
 ghost use Rattle.book.specs.Book.{book_of, lists};
 ghost use Rattle.booked.specs.Told.{number_in, Told};

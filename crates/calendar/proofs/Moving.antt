@@ -1,14 +1,13 @@
 -- A law for each way to an answer with a move, in the code's terms.
 -- Assumes nothing.
 use Prim.Native.Nat.{ℕ, ◌≤◌}
-use mathlib.Core.Path.{◌≡◌, refl, ap, sym, ◌∙◌}
+use mathlib.Core.Path.{◌≡◌, ap, sym, ◌∙◌}
 use mathlib.Core.Bool.{Bool, true, false, not}
 use mathlib.Core.List.{List}
 use lib.IntN.{ℤ, pos, nat_abs, sub_ℕ}
 use mir.Syntax.{w32}
 use mir.Val.{to_z, of_z}
 use Rattle.refusal.specs.Answer.{Answer, given, refused, need, then, TENOR}
-use Rattle.refusal.specs.Laws.Answers.{then_given}
 use Rattle.period.specs.Period.{is_negative}
 use Rattle.period.specs.declared.Unit.{Unit}
 use Rattle.date.specs.declared.Date.{Date}

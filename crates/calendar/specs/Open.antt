@@ -1,6 +1,6 @@
 -- Document 01, "Calendar": a mask of weekly closed days, Monday the lowest bit, and a list of closed dates.
 -- Assumes nothing.
-use Rattle.std.specs.Prelude.{ℕ, ◌+◌, ◌/◌, ◌%◌, ◌^◌, Bool, true, false, not, ◌&&◌, ◌||◌, List, [], ◌∷◌, eqb, leb, ltb, length}
+use Rattle.std.specs.Prelude.{ℕ, ◌+◌, ◌/◌, ◌%◌, ◌^◌, Bool, true, false, not, ◌&&◌, ◌||◌, List, [], ◌∷◌, eqb, leb, length}
 use Rattle.date.specs.Date.{SPAN_FIRST, SPAN_LAST}
 
 -- the weekday's bit of the mask is set; day 1 is a Monday, and the top bit says nothing

@@ -1,4 +1,6 @@
 // Open days of a calendar: weekly closed days, Monday the lowest bit of the mask, and a lent list of closed dates.
+#![tactic(auto)]
+
 ghost use Rattle.std.specs.Prelude.{◌≡◌};
 ghost use Rattle.calendar.specs.Open.{calendar_ok};
 ghost use Rattle.calendar.specs.Calendar.{checked, decided, check_of, is_open_of, is_month_end_of, tenor_ok};
@@ -20,7 +22,7 @@ pub mod moves;
 pub mod scan;
 pub mod search;
 
-#[derive(Drop)]
+#[derive(Clone, Copy)]
 pub enum Convention {
     Unadjusted,
     Following,

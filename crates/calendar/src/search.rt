@@ -17,7 +17,7 @@ use date::{Date, Dated};
 
 // What is known beside a day that was adjusted: a guess at the place of a day near it, and the first and the last of days that lie in
 // one month, none if the first is the later one.
-#[derive(Drop)]
+#[derive(Clone, Copy)]
 pub struct Near {
     pub place: usize,
     pub from: u32,

@@ -5,8 +5,7 @@ ghost use Rattle.booked.specs.Told.{Told};
 
 // Builds up to 64 requests, each led by a two-byte length, each schedule right behind the one before it, and answers how many there
 // were. Each has four places of `answers`: count, start, tries, and the refusal's number or 0.
-#[unsafe(no_mangle)]
-pub extern "C" fn heronspan_book(
+pub fn heronspan_book(
     bytes: &[u8],
     dates: &mut [u32],
     flags: &mut [u8],

@@ -16,8 +16,7 @@ use date::Date;
 // Builds a schedule: the dates into the start of `dates`, the flags of the periods between them (1 regular) into the start
 // of `flags`, each date's unadjusted one into the start of `unadjusted`, and the count of dates is answered. The start of `answer` then holds the refusal's number or 0, the count of
 // dates, the tries, the rule in force, and the size and the unit of the tenor in force.
-#[unsafe(no_mangle)]
-pub extern "C" fn heronspan_build(
+pub fn heronspan_build(
     effective: u32,
     termination: u32,
     tenor: i32,
@@ -54,8 +53,7 @@ pub extern "C" fn heronspan_build(
 }
 
 // The same as `heronspan_build`, from the bytes of a request.
-#[unsafe(no_mangle)]
-pub extern "C" fn heronspan_build_bytes(
+pub fn heronspan_build_bytes(
     bytes: &[u8],
     dates: &mut [u32],
     flags: &mut [u8],
@@ -69,8 +67,7 @@ pub extern "C" fn heronspan_build_bytes(
 
 // The first date after the asked day of the schedule of a request in numbers, without the schedule: 0 where there is no later
 // date, else the day times 4, and 0 where the period that it ends is irregular, 1 where it is regular, 2 where it ends none.
-#[unsafe(no_mangle)]
-pub extern "C" fn heronspan_coming(
+pub fn heronspan_coming(
     effective: u32,
     termination: u32,
     tenor: i32,

@@ -12,16 +12,14 @@ use date::Date;
 use period::Period;
 
 // 0 where the calendar keeps its rule.
-#[unsafe(no_mangle)]
-pub extern "C" fn heronspan_calendar_check(mask: u8, closed: &[u32]) -> i64
+pub fn heronspan_calendar_check(mask: u8, closed: &[u32]) -> i64
     ensures { result ≡ one_number_of done (check_of mask closed.now) }
 {
     answers::of_checked(calendar::check(mask, closed))
 }
 
 // 1 where the day is open, 0 where it is closed.
-#[unsafe(no_mangle)]
-pub extern "C" fn heronspan_is_open(day: u32, mask: u8, closed: &[u32]) -> i64
+pub fn heronspan_is_open(day: u32, mask: u8, closed: &[u32]) -> i64
     ensures { result ≡ one_number_of yes (is_open_of mask closed.now day) }
 {
     answers::of_decided(calendar::is_open(Date { day }, mask, closed))
@@ -29,8 +27,7 @@ pub extern "C" fn heronspan_is_open(day: u32, mask: u8, closed: &[u32]) -> i64
 
 // The day adjusted by a convention; the days that it moved are written to the first place, as for a month end and an advance. A list with no
 // place is 14, before all else, and a refusal leaves it as it was.
-#[unsafe(no_mangle)]
-pub extern "C" fn heronspan_adjust(
+pub fn heronspan_adjust(
     day: u32,
     convention: u8,
     mask: u8,
@@ -49,21 +46,14 @@ pub extern "C" fn heronspan_adjust(
 }
 
 // The last open day of the day's month, moved from the month's last day.
-#[unsafe(no_mangle)]
-pub extern "C" fn heronspan_calendar_month_end(
-    day: u32,
-    mask: u8,
-    closed: &[u32],
-    moved: &mut [i32],
-) -> i64
+pub fn heronspan_calendar_month_end(day: u32, mask: u8, closed: &[u32], moved: &mut [i32]) -> i64
     ensures { MovePlace (last_open_move_of mask closed.now day) result moved.old moved.new }
 {
     counts::put_moved(calendar::month_end(Date { day }, mask, closed), moved)
 }
 
 // 1 where the day is the last open day of its month, or after it; 0 where it is not, as for day 0.
-#[unsafe(no_mangle)]
-pub extern "C" fn heronspan_is_month_end(day: u32, mask: u8, closed: &[u32]) -> i64
+pub fn heronspan_is_month_end(day: u32, mask: u8, closed: &[u32]) -> i64
     ensures { result ≡ one_number_of yes (is_month_end_of mask closed.now day) }
 {
     answers::of_decided(calendar::is_month_end(Date { day }, mask, closed))
@@ -71,8 +61,7 @@ pub extern "C" fn heronspan_is_month_end(day: u32, mask: u8, closed: &[u32]) -> 
 
 // The day moved by the tenor: days are open days, the other units are added and adjusted. The days moved are those from the sum, or from its
 // month's last day where the month end is given.
-#[unsafe(no_mangle)]
-pub extern "C" fn heronspan_calendar_advance(
+pub fn heronspan_calendar_advance(
     day: u32,
     tenor: i32,
     unit: u8,

@@ -10,8 +10,7 @@ use crossing::counts;
 use date::Date;
 
 // How many days the first day lies after the second.
-#[unsafe(no_mangle)]
-pub extern "C" fn heronspan_difference(a: u32, b: u32, days: &mut [i32]) -> i64
+pub fn heronspan_difference(a: u32, b: u32, days: &mut [i32]) -> i64
     ensures { FirstPlace (difference_of a b) result days.old days.new }
 {
     let date = Date { day: a };
@@ -19,8 +18,7 @@ pub extern "C" fn heronspan_difference(a: u32, b: u32, days: &mut [i32]) -> i64
 }
 
 // The length of a tenor that is taken `count` times; its unit stays.
-#[unsafe(no_mangle)]
-pub extern "C" fn heronspan_times(tenor: i32, unit: u8, count: i32, out: &mut [i32]) -> i64
+pub fn heronspan_times(tenor: i32, unit: u8, count: i32, out: &mut [i32]) -> i64
     ensures { FirstPlace (then (unit_of unit) (λ u. length_in (times_of tenor u count))) result out.old out.new }
 {
     counts::put_counted(counts::times(tenor, unit, count), out)

@@ -10,8 +10,7 @@ use crossing::{NamedFlag, NamedRule, answers};
 use date::Date;
 
 // 1 where the day is an IMM date, 0 where it is not.
-#[unsafe(no_mangle)]
-pub extern "C" fn heronspan_is_imm_date(day: u32, main: u8) -> i64
+pub fn heronspan_is_imm_date(day: u32, main: u8) -> i64
     ensures { result ≡ one_number_of yes (then (flag_of main) (λ m. is_imm_in m day)) }
 {
     let named = crossing::flag_of(main);
@@ -22,8 +21,7 @@ pub extern "C" fn heronspan_is_imm_date(day: u32, main: u8) -> i64
 }
 
 // 1 where the bytes are a code, 0 where they are not.
-#[unsafe(no_mangle)]
-pub extern "C" fn heronspan_is_imm_code(code: &[u8], main: u8) -> i64
+pub fn heronspan_is_imm_code(code: &[u8], main: u8) -> i64
     ensures { result ≡ one_number_of yes (then (flag_of main) (λ m. given (is_code m code.now))) }
 {
     let named = crossing::flag_of(main);
@@ -34,24 +32,21 @@ pub extern "C" fn heronspan_is_imm_code(code: &[u8], main: u8) -> i64
 }
 
 // The code of an IMM date, as letter * 256 + digit, both bytes.
-#[unsafe(no_mangle)]
-pub extern "C" fn heronspan_imm_code(day: u32) -> i64
+pub fn heronspan_imm_code(day: u32) -> i64
     ensures { result ≡ one_number_of two_bytes (code_in day) }
 {
     answers::of_coded(imm::code(Date { day }))
 }
 
 // The earliest IMM date on or after the day that the code names.
-#[unsafe(no_mangle)]
-pub extern "C" fn heronspan_imm_date(code: &[u8], day: u32) -> i64
+pub fn heronspan_imm_date(code: &[u8], day: u32) -> i64
     ensures { result ≡ one_number_of itself (date_in code.now day) }
 {
     answers::of_dated(imm::date(code, Date { day }))
 }
 
 // The earliest IMM date after the day.
-#[unsafe(no_mangle)]
-pub extern "C" fn heronspan_next_imm_date(day: u32, main: u8) -> i64
+pub fn heronspan_next_imm_date(day: u32, main: u8) -> i64
     ensures { result ≡ one_number_of itself (then (flag_of main) (λ m. next_in m day)) }
 {
     let named = crossing::flag_of(main);
@@ -62,8 +57,7 @@ pub extern "C" fn heronspan_next_imm_date(day: u32, main: u8) -> i64
 }
 
 // The earliest IMM date after the one that the code names.
-#[unsafe(no_mangle)]
-pub extern "C" fn heronspan_next_imm_date_with_code(code: &[u8], main: u8, day: u32) -> i64
+pub fn heronspan_next_imm_date_with_code(code: &[u8], main: u8, day: u32) -> i64
     ensures { result ≡ one_number_of itself (then (flag_of main) (λ m. next_with_code code.now m day)) }
 {
     let named = crossing::flag_of(main);
@@ -74,8 +68,7 @@ pub extern "C" fn heronspan_next_imm_date_with_code(code: &[u8], main: u8, day: 
 }
 
 // The code of the earliest IMM date after the day.
-#[unsafe(no_mangle)]
-pub extern "C" fn heronspan_next_imm_code(day: u32, main: u8) -> i64
+pub fn heronspan_next_imm_code(day: u32, main: u8) -> i64
     ensures { result ≡ one_number_of two_bytes (then (flag_of main) (λ m. next_code_in m day)) }
 {
     let named = crossing::flag_of(main);
@@ -86,8 +79,7 @@ pub extern "C" fn heronspan_next_imm_code(day: u32, main: u8) -> i64
 }
 
 // The code of the earliest IMM date after the one that the code names.
-#[unsafe(no_mangle)]
-pub extern "C" fn heronspan_next_imm_code_with_code(code: &[u8], main: u8, day: u32) -> i64
+pub fn heronspan_next_imm_code_with_code(code: &[u8], main: u8, day: u32) -> i64
     ensures { result ≡ one_number_of two_bytes (then (flag_of main) (λ m. next_code_with_code code.now m day)) }
 {
     let named = crossing::flag_of(main);
@@ -98,8 +90,7 @@ pub extern "C" fn heronspan_next_imm_code_with_code(code: &[u8], main: u8, day: 
 }
 
 // The first twentieth on or after the day; for the rules of IMM months, of March, June, September or December.
-#[unsafe(no_mangle)]
-pub extern "C" fn heronspan_next_twentieth(day: u32, rule: u8) -> i64
+pub fn heronspan_next_twentieth(day: u32, rule: u8) -> i64
     ensures { result ≡ one_number_of itself (then (rule_of rule) (λ k. next_twentieth_of k day)) }
 {
     let named = crossing::rule_of(rule);
@@ -110,8 +101,7 @@ pub extern "C" fn heronspan_next_twentieth(day: u32, rule: u8) -> i64
 }
 
 // The last twentieth on or before the day, as a CDS rule counts back from it.
-#[unsafe(no_mangle)]
-pub extern "C" fn heronspan_previous_twentieth(day: u32, rule: u8) -> i64
+pub fn heronspan_previous_twentieth(day: u32, rule: u8) -> i64
     ensures { result ≡ one_number_of itself (then (rule_of rule) (λ k. previous_twentieth_of k day)) }
 {
     let named = crossing::rule_of(rule);

@@ -9,16 +9,14 @@ use crossing::{NamedUnit, answers};
 use date::Date;
 
 // The day number of a civil date.
-#[unsafe(no_mangle)]
-pub extern "C" fn heronspan_make(year: u32, month: u32, day: u32) -> i64
+pub fn heronspan_make(year: u32, month: u32, day: u32) -> i64
     ensures { result ≡ one_number_of itself (make_of year month day) }
 {
     answers::of_dated(Date::make(year, month, day))
 }
 
 // The civil date, as year * 10000 + month * 100 + day.
-#[unsafe(no_mangle)]
-pub extern "C" fn heronspan_fields(day: u32) -> i64
+pub fn heronspan_fields(day: u32) -> i64
     ensures { result ≡ one_number_of digits (fields_in day) }
 {
     let date = Date { day };
@@ -26,24 +24,21 @@ pub extern "C" fn heronspan_fields(day: u32) -> i64
 }
 
 // 1 is Monday and 7 Sunday.
-#[unsafe(no_mangle)]
-pub extern "C" fn heronspan_weekday(day: u32) -> i64
+pub fn heronspan_weekday(day: u32) -> i64
     ensures { result ≡ one_number_of itself (weekday_in day) }
 {
     let date = Date { day };
     answers::of_numbered(date.weekday())
 }
 
-#[unsafe(no_mangle)]
-pub extern "C" fn heronspan_month_end(day: u32) -> i64
+pub fn heronspan_month_end(day: u32) -> i64
     ensures { result ≡ one_number_of itself (month_end_of day) }
 {
     let date = Date { day };
     answers::of_dated(date.month_end())
 }
 
-#[unsafe(no_mangle)]
-pub extern "C" fn heronspan_advance(day: u32, count: i32, unit: u8) -> i64
+pub fn heronspan_advance(day: u32, count: i32, unit: u8) -> i64
     ensures { result ≡ one_number_of itself (then (unit_of unit) (advance_of day count)) }
 {
     let named = crossing::unit_of(unit);
@@ -57,8 +52,7 @@ pub extern "C" fn heronspan_advance(day: u32, count: i32, unit: u8) -> i64
 }
 
 // The first day with that weekday on or after the day.
-#[unsafe(no_mangle)]
-pub extern "C" fn heronspan_next_weekday(day: u32, weekday: u32) -> i64
+pub fn heronspan_next_weekday(day: u32, weekday: u32) -> i64
     ensures { result ≡ one_number_of itself (next_weekday_of day weekday) }
 {
     let date = Date { day };
@@ -66,16 +60,14 @@ pub extern "C" fn heronspan_next_weekday(day: u32, weekday: u32) -> i64
 }
 
 // The nth day with that weekday in a month.
-#[unsafe(no_mangle)]
-pub extern "C" fn heronspan_nth_weekday(nth: u32, weekday: u32, month: u32, year: u32) -> i64
+pub fn heronspan_nth_weekday(nth: u32, weekday: u32, month: u32, year: u32) -> i64
     ensures { result ≡ one_number_of itself (nth_weekday_of nth weekday month year) }
 {
     answers::of_dated(Date::nth_weekday(nth, weekday, month, year))
 }
 
 // 0 where the first day lies before the second, 1 where they are the same, 2 where it lies after.
-#[unsafe(no_mangle)]
-pub extern "C" fn heronspan_compare(a: u32, b: u32) -> i64
+pub fn heronspan_compare(a: u32, b: u32) -> i64
     ensures { result ≡ one_number_of place (compare_of a b) }
 {
     let date = Date { day: a };

@@ -11,21 +11,14 @@ use crossing::{NamedConvention, answers, counts};
 use date::Date;
 
 // 0 where the run of the year is answered.
-#[unsafe(no_mangle)]
-pub extern "C" fn heronspan_desk_check(desk: &[u32], house: &[u32], year: u32) -> i64
+pub fn heronspan_desk_check(desk: &[u32], house: &[u32], year: u32) -> i64
     ensures { result ≡ one_number_of done (asked_of desk.now house.now year) }
 {
     answers::of_checked(desk::check(desk, house, year))
 }
 
 // How many entries the run of the year has; the list that it stands in and where it starts are written to the first two places.
-#[unsafe(no_mangle)]
-pub extern "C" fn heronspan_desk_run(
-    desk: &[u32],
-    house: &[u32],
-    year: u32,
-    place: &mut [u32],
-) -> i64
+pub fn heronspan_desk_run(desk: &[u32], house: &[u32], year: u32, place: &mut [u32]) -> i64
     ensures { (result ≡ one_number_of itself (count_of desk.now house.now year (length place.old))) × Written (count_of desk.now house.now year (length place.old)) (run_of desk.now house.now year) (entries_in year desk.now) desk.now house.now place.old place.new }
 {
     answers::of_numbered(desk::write_place(desk, house, year, place))
@@ -33,8 +26,7 @@ pub extern "C" fn heronspan_desk_run(
 
 // The day adjusted by a convention, each day that is tried open or closed by the run of its own year; the days that it moved are written to the
 // first place.
-#[unsafe(no_mangle)]
-pub extern "C" fn heronspan_desk_adjust<'a>(
+pub fn heronspan_desk_adjust<'a>(
     day: u32,
     convention: u8,
     mask: u8,
@@ -54,8 +46,7 @@ pub extern "C" fn heronspan_desk_adjust<'a>(
 }
 
 // The combined list over the start of a lent list, and how many entries it has.
-#[unsafe(no_mangle)]
-pub extern "C" fn heronspan_desk_combine(desk: &[u32], house: &[u32], closed: &mut [u32]) -> i64
+pub fn heronspan_desk_combine(desk: &[u32], house: &[u32], closed: &mut [u32]) -> i64
     ensures { (result ≡ one_number_of itself (combine_of desk.now house.now (length closed.old))) × (closed.new ≡ lent_after (combine_of desk.now house.now (length closed.old)) (combined desk.now house.now) closed.old) }
 {
     answers::of_numbered(desk::combine(desk, house, closed))

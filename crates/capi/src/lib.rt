@@ -1,5 +1,6 @@
-// The functions that other languages call. Each answers in one number, zero or more for a value and below zero for minus a
-// refusal; a slice is a pointer and a length to the caller.
+// The functions that other languages call, by way of `capi_c`. Each answers in one number, zero or more for a value and below zero
+// for minus a refusal; a slice is a pointer and a length to the caller.
+#![tactic(auto)]
 
 // Dates.
 pub mod dates;

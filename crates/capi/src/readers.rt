@@ -2,16 +2,14 @@
 ghost use Rattle.fed.specs.Handed.{Renewed, Fed, Ended};
 
 // Makes the reader a new one, whatever it was. Answers 0.
-#[unsafe(no_mangle)]
-pub extern "C" fn heronspan_reset(reader: &mut [u16; 46]) -> i64
+pub fn heronspan_reset(reader: &mut [u16; 46]) -> i64
     ensures { Renewed reader.old result reader.new }
 {
     fed::reset(reader)
 }
 
 // Takes in a part of the bytes, as `feeding::feed`: 0 to go on; once the request was declared finished, the finish's answer.
-#[unsafe(no_mangle)]
-pub extern "C" fn heronspan_feed(
+pub fn heronspan_feed(
     reader: &mut [u16; 46],
     part: &[u8],
     buffer: &mut [u8],
@@ -23,8 +21,7 @@ pub extern "C" fn heronspan_feed(
 }
 
 // Declares the request finished, as `feeding::finish`: 1, and its thirteen numbers stand in the reader; or minus the refusal.
-#[unsafe(no_mangle)]
-pub extern "C" fn heronspan_finish(reader: &mut [u16; 46], buffer: &[u8], closed: &mut [u32]) -> i64
+pub fn heronspan_finish(reader: &mut [u16; 46], buffer: &[u8], closed: &mut [u32]) -> i64
     ensures { Ended reader.old buffer.now closed.old result reader.new closed.new }
 {
     fed::finish(reader, buffer, closed)

@@ -5,8 +5,7 @@ use crossing::names;
 
 // Writes the name of the refusal that an answer below zero gives, BOOK for one, over the start of `text`, and answers how many
 // bytes it has. Every other answer has the empty name. A name that does not fit is 14, and nothing is written.
-#[unsafe(no_mangle)]
-pub extern "C" fn heronspan_refusal_text(answer: i64, text: &mut [u8]) -> i64
+pub fn heronspan_refusal_text(answer: i64, text: &mut [u8]) -> i64
     ensures { Spelled (name_of answer) result text.old text.new }
 {
     names::put_refusal(answer, text)

@@ -11,24 +11,21 @@ use crossing::years;
 use fractions::reports;
 
 // The fraction of a year that a period is, as the bits of a double.
-#[unsafe(no_mangle)]
-pub extern "C" fn heronspan_year_fraction(basis: u8, start: u32, end: u32) -> i64
+pub fn heronspan_year_fraction(basis: u8, start: u32, end: u32) -> i64
     ensures { result ≡ one_number_of bits (then (basis_of basis) (λ k. fraction_of k start end)) }
 {
     years::fraction(basis, start, end)
 }
 
 // Numerator and denominator of a period, into the first two places of `parts`.
-#[unsafe(no_mangle)]
-pub extern "C" fn heronspan_year_parts(basis: u8, start: u32, end: u32, parts: &mut [u32]) -> i64
+pub fn heronspan_year_parts(basis: u8, start: u32, end: u32, parts: &mut [u32]) -> i64
     ensures { Laid 2 (then (then (basis_of basis) (λ k. parts_of k start end)) two_parts) result parts.old parts.new }
 {
     years::put_parts(years::parts(basis, start, end), parts)
 }
 
 // The sums of the numerators over the periods of a list of dates, one for each basis, into the first three places of `sums`.
-#[unsafe(no_mangle)]
-pub extern "C" fn heronspan_year_report(dates: &[u32], sums: &mut [u32]) -> i64
+pub fn heronspan_year_report(dates: &[u32], sums: &mut [u32]) -> i64
     ensures { Laid 3 (then (report_of dates.now) three_sums) result sums.old sums.new }
 {
     years::put_report(reports::report(dates), sums)

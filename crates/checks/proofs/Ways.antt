@@ -20,7 +20,7 @@ use Rattle.imm.specs.Imm.{is_imm_date}
 use Rattle.steps.specs.declared.Rule.{Rule}
 use Rattle.steps.specs.declared.Rule.TheVariants.{ThirdWednesday}
 use Rattle.steps.specs.declared.Request.{Request}
-use Rattle.steps.specs.Rules.{rules, rule_number, one_of, rule_in_force}
+use Rattle.steps.specs.Rules.{rules as rule_list, rule_number, one_of, rule_in_force}
 use Rattle.steps.specs.Laws.Rules.{agree, keep, keys_of, tags_are, told}
 use Rattle.steps.specs.Table.{number_or, first_row, is_given, anchor_ok, dates_ok, by_range, by_imm, out_of_range, not_imm, wrong_rule, anchor_rows, first_rows, last_rows, rows_under}
 use Rattle.steps.specs.Laws.Rows.{numbered, row_holds, row_passed, no_rows, rows_hold, rows_passed}
@@ -91,7 +91,7 @@ pub record Belongs (rule : Rule) (range imm : Bool) : Type 0 where
 
 module _ (rule : Rule) where
   pub with_range : OneOf (1 ∷ 2 ∷ []) (tag_of the_type rule) → Belongs rule true false
-  unfolding by_range by_imm one_of rule_number rules agree keep keys_of tags_are
+  unfolding by_range by_imm one_of rule_number rule_list agree keep keys_of tags_are
   with_range k =
       let w = both (by_range rule) (not (by_imm rule)) (sym (told (tag_of the_type) refl (λ a. by_range a && not (by_imm a)) true rule k)) in
       record { by_range_lem = w.0; by_imm_lem = not-true (by_imm rule) w.1 }
@@ -101,7 +101,7 @@ module _ (rule : Rule) where
   with_imm e = record { by_range_lem = rw e; by_imm_lem = rw e }
 
   pub with_neither : OneOf (0 ∷ 3 ∷ 4 ∷ 6 ∷ 7 ∷ 8 ∷ 9 ∷ []) (tag_of the_type rule) → Belongs rule false false
-  unfolding by_range by_imm one_of rule_number rules agree keep keys_of tags_are
+  unfolding by_range by_imm one_of rule_number rule_list agree keep keys_of tags_are
   with_neither k =
       let w = both (not (by_range rule)) (not (by_imm rule)) (sym (told (tag_of the_type) refl (λ a. not (by_range a) && not (by_imm a)) true rule k)) in
       record { by_range_lem = not-true (by_range rule) w.0; by_imm_lem = not-true (by_imm rule) w.1 }

@@ -1,4 +1,6 @@
 // The input checks of a build: the rows 1 to 12 of document 01's table, in its order, and 27 behind them.
+#![tactic(auto)]
+
 ghost use Rattle.std.specs.Prelude.{◌≡◌, not, false, ◌&&◌};
 ghost use Rattle.calendar.specs.Open.{calendar_ok};
 ghost use Rattle.imm.specs.Imm.{is_imm_date};

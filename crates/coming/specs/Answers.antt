@@ -47,8 +47,8 @@ adjusting convention terminal = record { effective = record { day = on 1 15 }; t
 anchored : ℕ → ℕ → Request
 anchored first penultimate = record { effective = record { day = on 1 15 }; termination = record { day = on 12 20 }; tenor = record { length = pos 3; unit = Months }; rule = Backward; convention = Unadjusted; terminal = Unadjusted; monthend = false; first = record { day = first }; penultimate = record { day = penultimate }; mask = 0 }
 
-at_month_end_lem : Rule → Unit → Request
-at_month_end_lem rule unit = record { effective = record { day = on 1 15 }; termination = record { day = on 12 20 }; tenor = record { length = pos 1; unit = unit }; rule = rule; convention = Unadjusted; terminal = Unadjusted; monthend = true; first = record { day = 0 }; penultimate = record { day = 0 }; mask = 0 }
+at_month_end : Rule → Unit → Request
+at_month_end rule unit = record { effective = record { day = on 1 15 }; termination = record { day = on 12 20 }; tenor = record { length = pos 1; unit = unit }; rule = rule; convention = Unadjusted; terminal = Unadjusted; monthend = true; first = record { day = 0 }; penultimate = record { day = 0 }; mask = 0 }
 
 asked : Request → ℕ → Answer Comes
 asked q x = coming_of q [] x
@@ -83,8 +83,8 @@ worked : ◌≡◌ {A = List (Answer Comes)}
     ∷ asked (trade Backward (negsuc 366) Days (on 1 15) (on 12 20) 0) (on 2 1)
     -- 5: 19 in place of 6 to 12
     ∷ asked (anchored (on 1 15) 0) (on 2 1)
-    ∷ asked (at_month_end_lem CDS Months) (on 2 1)
-    ∷ asked (at_month_end_lem Backward Weeks) (on 2 1)
+    ∷ asked (at_month_end CDS Months) (on 2 1)
+    ∷ asked (at_month_end Backward Weeks) (on 2 1)
     ∷ asked (trade Backward (pos 0) Days (on 1 15) (on 12 20) 0) (on 2 1)
     ∷ asked (trade Zero (pos 3) Months (on 1 15) (on 12 20) 0) (on 2 1)
     -- 6: by the fields
@@ -148,5 +148,5 @@ worked : ◌≡◌ {A = List (Answer Comes)}
     ∷ given (comes (on 3 31) 0)
     ∷ given (comes (on 3 31) 1)
     ∷ [])
-unfolding trade T adjusting anchored at_month_end_lem asked need leap row_of month_length gone sum_to day_number guess years_gone month_in day_in place_of fields_at in_book within_span make_of month_index in_month step shift_days shift_months shifted ascending closed_ok calendar_ok longest tenor_ok rule_number one_of is_backward number_or first_row anchor_ok dates_ok is_unadjusted months_between most_by most_on_by is_direct is_straight asked_rows on_or comes_forward flag_by comes_backward comes_after unless_refused coming_of
+unfolding trade T adjusting anchored at_month_end asked need leap row_of month_length gone sum_to day_number guess years_gone month_in day_in place_of fields_at in_book within_span make_of month_index in_month step shift_days shift_months shifted ascending closed_ok calendar_ok longest tenor_ok rule_number one_of is_backward number_or first_row anchor_ok dates_ok is_unadjusted months_between most_by most_on_by is_direct is_straight asked_rows on_or comes_forward flag_by comes_backward comes_after unless_refused coming_of
 worked = refl

@@ -1,4 +1,6 @@
 // The coming date of a trade without its list: the first date of its schedule after an asked day.
+#![tactic(auto)]
+
 ghost use Rattle.std.specs.Prelude.{◌≡◌, nat_abs};
 ghost use Rattle.refusal.specs.Answer.{given};
 ghost use Rattle.date.specs.Civil.{pick_n};

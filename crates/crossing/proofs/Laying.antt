@@ -5,10 +5,10 @@ use mathlib.Core.Path.{◌≡◌, refl, ap, sym, ◌∙◌}
 use mathlib.Core.Bool.{not}
 use mathlib.Core.List.{List, [], ◌∷◌}
 use native.Mathlib.Omega.{arith}
-use lib.Dec.{T, leb}
+use lib.Dec.{T}
 use lib.Ieee.{Float, nan, inf, fin, is_nan, fits, binary64, to_bits}
 use lib.IntN.{ℤ, pos, neg_ℤ}
-use lib.ListN.{length, set, drop}
+use lib.ListN.{length, set}
 use lib.Signed.{mag}
 use mir.Syntax.{w64}
 use mir.Val.{to_z, of_z}

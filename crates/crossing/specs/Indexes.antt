@@ -1,6 +1,6 @@
 -- Request L9 in one number: an index that is made or changed stands in a lent list, which a refusal leaves as it was.
 -- Assumes nothing.
-use Rattle.std.specs.Prelude.{ℕ, ◌<◌, ◌≡◌, refl, List, ℤ, pos, neg_ℤ}
+use Rattle.std.specs.Prelude.{ℕ, ◌≡◌, refl, List, ℤ, pos, neg_ℤ}
 use Rattle.std.proofs.Common.{ap, ◌∙◌}
 use Rattle.refusal.specs.Answer.{Answer, given, refused}
 use Rattle.opendays.specs.declared.Changed.{Changed}

@@ -1,5 +1,7 @@
 // What crosses to other languages and to bytes, in numbers: the choices of a request, and answers. Here stand the units, the
 // rules, the conventions and the flags, by number and back.
+#![tactic(auto)]
+
 ghost use Rattle.std.specs.Prelude.{◌≡◌};
 ghost use Rattle.crossing.specs.Numbers.{unit_of, rule_of, convention_of, flag_of, unit_number, named_unit, named_rule, named_convention, named_flag};
 

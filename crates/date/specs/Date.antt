@@ -7,7 +7,6 @@ use Rattle.period.specs.Period.{is_negative}
 use Rattle.period.specs.declared.Unit.{Unit}
 use Rattle.period.specs.declared.Unit.TheVariants.{Days, Weeks, Months, Years}
 use Rattle.date.specs.declared.Fields.{Fields}
-use Rattle.date.specs.declared.Date.{Date}
 use Rattle.date.specs.declared.Dated.{Dated}
 use Rattle.date.specs.declared.Dated.TheVariants.{Day, Refused}
 use Rattle.date.specs.declared.Split.{Split}

@@ -5,9 +5,9 @@ use mathlib.Core.Path.{◌≡◌, refl, sym, ap, ◌∙◌}
 use mathlib.Core.Bool.{Bool, true, false, not, ◌&&◌}
 use mathlib.Core.List.{List}
 use native.Mathlib.Omega.{arith}
-use lib.Dec.{eqb, leb}
+use lib.Dec.{leb}
 use borrow.Author.Tests.{leb-true, leb-false, le-leb, eq-eqb, ne_eqb, not-false}
-use Rattle.refusal.specs.Answer.{Answer, given, refused, need, then, BOOK}
+use Rattle.refusal.specs.Answer.{Answer, given, refused, need, BOOK}
 use Rattle.refusal.specs.Laws.Answers.{holds, both, then_given, then_refused}
 use Rattle.date.specs.declared.Fields.{Fields}
 use Rattle.date.specs.declared.Date.{Date}
@@ -22,7 +22,7 @@ use Rattle.calendar.specs.Laws.Told.{ok_closed}
 use Rattle.calendar.specs.AnyCalendar.{in_span, first_open, found}
 use Rattle.desk.specs.Desk.{year_of, in_years, run_of, opens_over, calendars_ok}
 use Rattle.desk.specs.Runs.{Within}
-use Rattle.desk.specs.Laws.Years.{year_from, year_to, year_is, year_earlier, year_later, year_long, year_next, first_in, last_in}
+use Rattle.desk.specs.Laws.Years.{year_is, year_earlier, year_later, year_long, year_next, first_in, last_in}
 use Rattle.desk.specs.Laws.Cut.{cut_found, cut_rest}
 use Rattle.desk.specs.Laws.Runs.{run_ok, one_year}
 

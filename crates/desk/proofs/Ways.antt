@@ -2,7 +2,7 @@
 -- Assumes nothing.
 use Prim.Native.Nat.{ℕ, zero, suc, ◌+◌, ◌-◌, ◌≤◌, ◌<◌}
 use mathlib.Core.Path.{◌≡◌, refl, sym, ap, ◌∙◌}
-use mathlib.Core.Bool.{Bool, true, false, not, ◌&&◌, false≢true}
+use mathlib.Core.Bool.{Bool, true, false, not, ◌&&◌}
 use mathlib.Core.List.{List, [], ◌∷◌}
 use native.Mathlib.Omega.{arith}
 use lib.Dec.{eqb, leb}
@@ -11,7 +11,7 @@ use borrow.Author.Tests.{leb-true, leb-false, le-leb, lt-leb, eq-eqb, ne_eqb, no
 use Rattle.refusal.specs.Answer.{Answer, given, refused, need, then, BOOK, CALENDAR, ROOM}
 use Rattle.refusal.specs.Laws.Answers.{both, holds, need_given}
 use Rattle.date.specs.Civil.{day_number}
-use Rattle.date.specs.Date.{SPAN_FIRST, SPAN_LAST, make_of}
+use Rattle.date.specs.Date.{make_of}
 use Rattle.calendar.specs.Open.{closed_ok}
 use Rattle.calendar.specs.Laws.Kept.{checked_keeps}
 use Rattle.calendar.specs.Inner.Places.{LowerBound}
@@ -22,10 +22,10 @@ use Rattle.calendar.specs.Laws.Guards.{barred, cleared}
 use Rattle.desk.specs.declared.Found.{Found}
 use Rattle.desk.specs.declared.Told.{Told}
 use Rattle.desk.specs.declared.Told.TheVariants as told_is
-use Rattle.desk.specs.Desk.{year_of, kept, entries_in, or_else, run_of, in_years, asked_of, handed_over, lookup_of}
-use Rattle.desk.specs.Runs.{day_or, PartOf, pick_l, chosen, standing, Stands, Tells, count_of, PlaceIn, Written, PlaceTold}
+use Rattle.desk.specs.Desk.{entries_in, or_else, run_of, in_years, asked_of, handed_over, lookup_of}
+use Rattle.desk.specs.Runs.{day_or, PartOf, pick_l, chosen, standing, Stands, Tells, count_of, Written, PlaceTold}
 use Rattle.desk.specs.Laws.Entries.{one_part}
-use Rattle.desk.specs.Laws.Years.{year_from, year_to, make_first, make_last, year_is, year_earlier, year_later, year_some, last_in}
+use Rattle.desk.specs.Laws.Years.{year_from, make_first, make_last, year_is, year_earlier, year_later, year_some, last_in}
 
 -- ---- both lists
 module _ (desk house : List ℕ) (t : Bool) (p : t ≡ closed_ok desk) where

@@ -1,10 +1,10 @@
 -- Worked answers of request L6, checked by computing. The house closes 2025-12-25, 12-26, 2026-01-01 and 01-02; weekends are closed by the mask.
 -- Assumes nothing.
-use Rattle.std.specs.Prelude.{ℕ, zero, suc, ◌+◌, ◌≡◌, refl, Bool, true, false, List, [], ◌∷◌, pos}
+use Rattle.std.specs.Prelude.{ℕ, zero, suc, ◌+◌, ◌≡◌, refl, List, [], ◌∷◌, pos}
 use Rattle.refusal.specs.Answer.{Answer, given, refused, need, then, BOOK, CALENDAR, CLOSED, ROOM}
-use Rattle.date.specs.Civil.{leap, row_of, month_length, gone, sum_to, day_number, guess, years_gone, month_in, day_in, place_of, fields_at}
+use Rattle.date.specs.Civil.{leap, row_of, gone, sum_to, day_number, guess, years_gone, month_in, day_in, place_of, fields_at}
 use Rattle.date.specs.Date.{in_book, within_span, month_index, step}
-use Rattle.calendar.specs.declared.Convention.TheVariants.{Unadjusted, Following, ModifiedFollowing, Preceding, ModifiedPreceding}
+use Rattle.calendar.specs.declared.Convention.TheVariants.{Unadjusted, Following, Preceding, ModifiedPreceding}
 use Rattle.calendar.specs.Open.{weekly_closed, member, is_open_day, ascending, closed_ok, calendar_ok}
 use Rattle.calendar.specs.Calendar.{Sound, sound}
 use Rattle.calendar.specs.Moves.{moved_from}

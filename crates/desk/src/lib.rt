@@ -1,4 +1,6 @@
 // A desk's closed dates over the house's: for each year the desk's if it has any there, otherwise the house's.
+#![tactic(auto)]
+
 ghost use Rattle.std.specs.Prelude.{◌≡◌, true, ◌&&◌};
 ghost use Rattle.date.specs.Date.{numbered};
 ghost use Rattle.calendar.specs.Open.{closed_ok};

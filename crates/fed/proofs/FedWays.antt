@@ -24,7 +24,7 @@ use Rattle.feeding.specs.declared.State.{State}
 use Rattle.feeding.specs.declared.Said.{Said}
 use Rattle.feeding.specs.declared.Said.TheVariants.{More, Is}
 use Rattle.feeding.specs.Feed.{at, fresh, refused_buffer, Feeds, Finishes, eaten, laid}
-use Rattle.feeding.specs.Laws.Run.{goes_on, body_eaten, body_laid}
+use Rattle.feeding.specs.Laws.Run.{goes_on as goes_on_lem, body_eaten, body_laid}
 use Rattle.fed.specs.Words.{sum_of, less_of, with_state, Put, places_in, state_in, with_numbers, goes_on, runs_of}
 use Rattle.fed.specs.Handed.{numbers_of, decoded_number, number_of, decoded_words, said_words, Renewed, Stepped, Fed, Ended}
 use Rattle.fed.proofs.WordWays.{sum_small, less_within}
@@ -178,7 +178,7 @@ module _ (k : ℕ) (rest : List ℕ) (r : Runs (k ∷ rest) 1) (b : ℕ) where
 
   run_eaten : state_in ((k + 1) ∷ rest) ≡ eaten (state_in x₀) (b ∷ [])
   run_eaten =
-      behind ∙ sym (goes_on (in_body (stop - (k + 1)) (k + 1) (others + k + 1)) (λ e. omega (arith, e, r.more)))
+      behind ∙ sym (goes_on_lem (in_body (stop - (k + 1)) (k + 1) (others + k + 1)) (λ e. omega (arith, e, r.more)))
       ∙ sym (ap (λ (s : State). eaten s (b ∷ [])) before ∙ body_eaten (get_or rest 3 0 % 256) (get_or rest 4 0 % 256) (get_or rest 5 0 % 256) 0 (get_or rest 6 0) (places_in x₀) b [] (stop - (k + 1)) k (others + k) (omega (arith, r.within)) (omega (arith, r.within)))
 
   run_laid : (l : List ℕ) → set l k b ≡ laid (state_in x₀) (b ∷ []) l

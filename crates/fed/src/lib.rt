@@ -1,4 +1,6 @@
 // A reader for other languages: the answer of a feed as one number, and the request, where it was found, in thirteen.
+#![tactic(auto)]
+
 ghost use Rattle.std.specs.Prelude.{◌≡◌};
 ghost use Rattle.crossing.specs.Answers.{yes};
 ghost use Rattle.fed.specs.Handed.{few, numbers_of, decoded_number, number_of, decoded_words, said_words, Renewed, Stepped, Fed, Ended};

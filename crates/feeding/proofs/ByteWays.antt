@@ -1,12 +1,12 @@
 -- Laws of one byte: one for each way through the code.
 -- Assumes nothing.
-use Prim.Native.Nat.{ℕ, zero, suc, ◌+◌, ◌*◌, ◌-◌, ◌%◌, ◌≤◌, ◌<◌}
+use Prim.Native.Nat.{ℕ, ◌+◌, ◌*◌, ◌-◌, ◌%◌, ◌≤◌, ◌<◌}
 use mathlib.Core.Path.{◌≡◌, refl, sym, ap, ◌∙◌}
 use mathlib.Core.Bool.{Bool, true, false, false≢true, ◌&&◌}
-use mathlib.Core.List.{List, [], ◌∷◌}
+use mathlib.Core.List.{List}
 use native.Mathlib.Omega.{arith}
 use borrow.Author.Rules.{rules}
-use borrow.Author.Tests.{lt-ltb, le-ltb, le-leb, lt-leb, eq-eqb, ne_eqb, ltb-true, eqb-false, eqb-true}
+use borrow.Author.Tests.{lt-ltb, le-ltb, le-leb, lt-leb, eq-eqb, ne_eqb, ltb-true, eqb-false}
 use lib.Dec.{ltb, leb, eqb}
 use lib.ListN.{length, get_or, set}
 use lib.Seq.{set_out}
@@ -14,7 +14,7 @@ use Rattle.request.specs.Format.{pick, is_letter}
 use Rattle.request.specs.Stored.{widths}
 use Rattle.request.specs.Laws.Picks.{taken, left}
 use Rattle.feeding.specs.declared.State.{State}
-use Rattle.feeding.specs.Feed.{at, to, counting, size_ok, first_ok, starts_ok, settled, on_tag, on_high, on_size, on_low, on_body, spoilt, keeps_of, eat_of, keep_of}
+use Rattle.feeding.specs.Feed.{at, to, counting, size_ok, first_ok, starts_ok, settled, on_tag, on_high, on_size, on_body, spoilt, keeps_of, eat_of, keep_of}
 
 -- ---- whether all is sound still
 pub still_yes : {ok : Bool} (sound : ℕ) → ok ≡ true → sound ≡ pick ok sound 0

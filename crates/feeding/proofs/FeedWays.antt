@@ -1,19 +1,15 @@
 -- Laws of a feed and of the finish: one for each way through the code.
 -- Assumes nothing.
-use Prim.Native.Nat.{ℕ, ◌+◌, ◌/◌, ◌≤◌, ◌<◌}
+use Prim.Native.Nat.{ℕ, ◌/◌, ◌≤◌, ◌<◌}
 use mathlib.Core.Path.{◌≡◌, refl, sym, ap, ◌∙◌}
-use mathlib.Core.Bool.{Bool, true, false}
 use mathlib.Core.List.{List}
 use borrow.Author.Rules.{rules}
 use borrow.Author.Tests.{lt-ltb, le-ltb, eq-eqb, ne_eqb, le-leb}
-use lib.Dec.{eqb, ltb}
 use lib.ListN.{length}
-use Rattle.refusal.specs.Answer.{Answer, need}
 use Rattle.refusal.specs.Laws.Answers.{fails, holds}
-use Rattle.request.specs.Format.{pick, asked_from}
 use Rattle.request.specs.Laws.Picks.{taken, left}
-use Rattle.request.specs.Stored.{stored, stored_in}
-use Rattle.request.specs.Decode.{answered, closed_dates_after, Decodes}
+use Rattle.request.specs.Stored.{stored_in}
+use Rattle.request.specs.Decode.{Decodes}
 use Rattle.request.specs.Laws.Promise.{refuses, same_promise}
 use Rattle.request.specs.declared.Decoded.{Decoded}
 use Rattle.request.specs.declared.Decoded.TheVariants as decoded-is

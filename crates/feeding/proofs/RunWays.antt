@@ -1,6 +1,6 @@
 -- Laws of a run and of a part: one for each way through the code.
 -- Assumes nothing.
-use Prim.Native.Nat.{ℕ, zero, suc, ◌+◌, ◌*◌, ◌-◌, ◌≤◌, ◌<◌}
+use Prim.Native.Nat.{ℕ, ◌+◌, ◌-◌, ◌≤◌, ◌<◌}
 use mathlib.Core.Path.{◌≡◌, refl, sym, ap, ◌∙◌}
 use mathlib.Core.Bool.{Bool, true, false}
 use mathlib.Core.List.{List, [], ◌∷◌, ◌++◌}
@@ -8,8 +8,7 @@ use native.Mathlib.Nat.{le_antisymm}
 use native.Mathlib.Numerals.{add-one}
 use native.Mathlib.Omega.{arith}
 use borrow.Author.Rules.{rules}
-use borrow.Author.Tests.{lt-ltb, le-ltb, eq-eqb, ne_eqb}
-use lib.ListN.{length, get_or, take, drop, set, length-set, drop_of_length-le, take-append-drop, length-drop, length-append}
+use lib.ListN.{length, get_or, take, drop, set, length-set, drop_of_length-le, take-append-drop, length-drop}
 use lib.Seq.{drop-cons, paste, paste-zero, paste-suc, take-length, drop-drop, length-take-le}
 use Rattle.request.specs.Laws.Picks.{taken, left}
 use Rattle.feeding.specs.declared.State.{State}

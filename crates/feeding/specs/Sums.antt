@@ -1,15 +1,9 @@
 -- The sums of document 02's page on L1, worked by hand.
 -- Assumes nothing.
-use Rattle.std.specs.Prelude.{ℕ, ◌≡◌, refl, true, false, List, [], ◌∷◌, ◌++◌, map, length, replicate, pos}
-use Rattle.refusal.specs.Answer.{Answer, given, refused, number, need}
-use Rattle.period.specs.declared.Unit.TheVariants.{Days}
-use Rattle.calendar.specs.declared.Convention.TheVariants.{Unadjusted}
-use Rattle.calendar.specs.Adjust.{conventions}
-use Rattle.steps.specs.declared.Rule.TheVariants.{Backward}
-use Rattle.steps.specs.Rules.{rules}
-use Rattle.request.specs.Format.{pick, signed16, is_date, is_letter, body_or, date_of, unit_of, tenor_of, rule_of, convention_of, dates_of, request_from, closed_from, asked_from, Asked}
+use Rattle.std.specs.Prelude.{ℕ, ◌≡◌, refl, List, [], ◌∷◌, ◌++◌, map, replicate}
+use Rattle.refusal.specs.Answer.{number, need}
+use Rattle.request.specs.Format.{pick, is_date, dates_of, closed_from, asked_from}
 use Rattle.request.specs.Stored.{body_in, width_of, stored}
-use Rattle.feeding.specs.declared.State.{State}
 use Rattle.feeding.specs.Bodies.{on_tag_in, on_header, bodies_from, bodies}
 use Rattle.feeding.specs.Feed.{fresh, size_ok, first_ok, starts_ok, settled, on_tag, on_high, on_size, on_body, spoilt, keeps_of, eat_of, keep_of, eaten, laid, is_whole, found}
 

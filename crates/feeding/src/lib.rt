@@ -1,4 +1,6 @@
 // Requests off the wire: a reader that is fed one part of the bytes at a time, in whatever cuts they come.
+#![tactic(auto)]
+
 ghost use Rattle.std.specs.Prelude.{◌≡◌};
 ghost use Rattle.feeding.specs.Feed.{fresh, Feeds, Finishes};
 
@@ -13,7 +15,7 @@ mod answering;
 // (1), whether the request was declared finished (1), the bytes of the body still due, how many bytes are stored and how many
 // were fed, the length of field 0B, and where the body of each tag starts.
 #[repr(C)]
-#[derive(Drop)]
+#[derive(Clone, Copy)]
 pub struct State {
     pub phase: u8,
     pub tag: u8,
@@ -28,7 +30,7 @@ pub struct State {
 }
 
 // Go on; or what is said of the request that was declared finished, and of a buffer that is too short.
-#[derive(Drop)]
+#[derive(Clone, Copy)]
 pub enum Said {
     More,
     Is(Decoded),

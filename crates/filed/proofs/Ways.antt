@@ -1,8 +1,7 @@
 -- The ways through the import and the export in numbers.
 -- Assumes nothing.
-use Prim.Native.Nat.{ℕ, ◌≤◌, ◌<◌}
+use Prim.Native.Nat.{ℕ, ◌≤◌}
 use mathlib.Core.Path.{◌≡◌, refl, sym, ap, ◌∙◌}
-use mathlib.Core.Bool.{true, false}
 use mathlib.Core.List.{List, [], ◌∷◌}
 use native.Mathlib.Omega.{arith}
 use lib.Dec.{leb}
@@ -20,7 +19,6 @@ use Rattle.holidays.specs.Promise.{answer_of, list_of, Imports}
 use Rattle.publishing.specs.declared.Exported.{Exported}
 use Rattle.publishing.specs.declared.Exported.TheVariants as exported-is
 use Rattle.holidays.specs.Words.{Bytes}
-use Rattle.publishing.specs.File.{export_of}
 use Rattle.publishing.specs.Promise as publishing
 use Rattle.filed.specs.Filed.{import_number, line_of, import_into, Filed, Published}
 

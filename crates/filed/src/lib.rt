@@ -1,4 +1,6 @@
 // Calendar files for other languages: the import and the export in one number, the line of a refusal in a lent place.
+#![tactic(auto)]
+
 ghost use Rattle.filed.specs.Filed.{Filed, Published};
 
 use crossing::answers;

@@ -3,13 +3,11 @@
 use mathlib.Core.Path.{◌≡◌, refl, ap, sym, ◌∙◌}
 use mathlib.Core.Bool.{Bool, true, false, false≢true}
 use mathlib.Core.List.{List, [], ◌∷◌, ◌++◌}
-use Prim.Native.Nat.{ℕ, zero, suc, ◌+◌, ◌-◌, ◌*◌, ◌≤◌, ◌<◌}
+use Prim.Native.Nat.{ℕ, zero, suc, ◌+◌, ◌-◌, ◌≤◌, ◌<◌}
 use native.Mathlib.Omega.{arith}
-use lib.Dec.{eqb, ltb, leb}
+use lib.Dec.{ltb}
 use lib.ListN.{length, get_or, take, drop, set, length-set, length-append, length-drop, drop_of_length-le}
 use lib.Seq.{length-take-le, drop-append-le, take_at, take-length, take-suc-set, drop-cons}
-use mir.Syntax.{w32, w64}
-use mir.Val.{Fits}
 use borrow.Author.Tests.{lt-leb, lt-ltb, le-ltb, leb-true, ne_eqb}
 use borrow.Author.Rules.{rules}
 use Rattle.refusal.specs.Answer.{Answer, given, refused, then}
@@ -19,9 +17,9 @@ use Rattle.steps.specs.declared.Rule.{Rule}
 use Rattle.steps.specs.declared.Request.{Request}
 use Rattle.steps.specs.declared.Built.{Built}
 use Rattle.steps.specs.Rules.{rule_in_force, tenor_in_force}
-use Rattle.steps.specs.Finish.{Merged, meet_at_end, merge_end_if, merge_end, merge_front, merge_front_if, meet_at_front}
-use Rattle.steps.specs.Build.{refused_built, answered, over, dates_after, flags_after}
-use Rattle.steps.specs.Entries.{Entries, Pairs, pairs_of, merged_entries, without_former, without_second, left_beside, farthest, paid_of, moved_of, unadjusted_after, Written}
+use Rattle.steps.specs.Finish.{Merged, meet_at_end, merge_end, merge_front, merge_front_if, meet_at_front}
+use Rattle.steps.specs.Build.{refused_built, answered, dates_after, flags_after}
+use Rattle.steps.specs.Entries.{Entries, pairs_of, merged_entries, without_former, without_second, left_beside, farthest, paid_of, moved_of, unadjusted_after, Written}
 use Rattle.steps.specs.Laws.Entries.{former_is, former_length}
 use Rattle.steps.specs.Laws.Entries as entries
 use Rattle.finish.specs.declared.merges.Start.{Start}

@@ -1,18 +1,18 @@
 -- A law for each way through the two merges.
 -- Assumes nothing.
-use mathlib.Core.Path.{◌≡◌, refl, ap, ◌∙◌}
+use mathlib.Core.Path.{◌≡◌, refl, ◌∙◌}
 use mathlib.Core.Bool.{Bool, true, false, ◌&&◌}
 use mathlib.Core.List.{List}
 use Prim.Native.Nat.{ℕ, ◌+◌, ◌-◌, ◌≤◌, ◌<◌}
 use native.Mathlib.Omega.{arith}
-use lib.ListN.{length, get_or, take, set}
+use lib.ListN.{length, get_or, set}
 use lib.Seq.{take_all, take-length}
 use lib.Dec.{leb}
 use borrow.Author.Tests.{le-leb, lt-leb}
 use borrow.Author.Rules.{rules}
 use Rattle.refusal.specs.Answer.{COLLAPSED}
 use Rattle.refusal.specs.Laws.Answers.{fails, holds}
-use Rattle.steps.specs.Finish.{Merged, merge_end, merge_end_if, meet_at_end, merge_front, merge_front_if, meet_at_front, same_flag}
+use Rattle.steps.specs.Finish.{merge_end, merge_end_if, meet_at_end, merge_front, merge_front_if, meet_at_front, same_flag}
 use Rattle.finish.specs.declared.merges.Start.TheVariants.{At, Refused}
 use Rattle.finish.specs.Ends.{EndMerged, left_from, Short, FrontMerged}
 

@@ -9,7 +9,7 @@ use native.Mathlib.Omega.{arith}
 use lib.IntN.{ℤ}
 use lib.ListN.{length, get_or, take, drop, set, length-set, drop_of_length-le, take-append-drop}
 use lib.Seq.{append_snoc, drop-cons, take_all, take-suc-set, drop-set-lt}
-use borrow.Author.Rules.{rules}
+use borrow.Author.Rules.{rules as search_rules}
 use borrow.Rule.Slice.PartMut.{put_mid, Post-is}
 use denote.Enum.Declared.{tag_of}
 use types.Run.{OneOf}
@@ -115,7 +115,7 @@ module _ {mask : ℕ} {closed : List ℕ} {what : Move} {s₀ s : List ℕ} {i :
           same = λ ok. sym (rest_moved (moved mask closed what) s s i h (set s i d.day) d.day h (drop-set-lt (suc i) s i d.day (omega arith)) (given_day r d _ (p ok) e)) ∙ u.same ok;
         }
 
-pub ruleset moving = (underway_none, underway_whole, underway_refused, underway_moved, rules)
+pub ruleset moving = (underway_none, underway_whole, underway_refused, underway_moved, search_rules)
 
 -- ---- the loop into another list
 pub beside_none : (mask : ℕ) (closed : List ℕ) (what : Move) (src dst : List ℕ) → Beside mask closed what src dst dst 0
@@ -150,7 +150,7 @@ module _ {mask : ℕ} {closed : List ℕ} {convention : Convention} {src dst₀ 
   unfolding moved dated
   adjust_moved d days e = beside_moved u even h (dated-is.Day d) (λ k. sym (moved_day _ _ m (p k) d days e)) d refl
 
-pub ruleset besides = (beside_none, beside_whole, beside_refused, beside_moved, adjust_refused, adjust_moved, rules)
+pub ruleset besides = (beside_none, beside_whole, beside_refused, beside_moved, adjust_refused, adjust_moved, search_rules)
 
 -- ---- a part
 pub part_moved : {P : Type 0} (ok : P) (f : ℕ → Answer ℕ) (a b : ℕ) (s ys : List ℕ) (r : Done) → a ≤ b → (P → done r ys ≡ each f (take (b - a) (drop a s))) → done r (put_mid a (b - a) s ys) ≡ between f a b s
@@ -180,7 +180,7 @@ pub last_some : {P : Type 0} (ok : P) (f : ℕ → Answer ℕ) (ds ds' : List �
 unfolding on_last
 last_some ok f ds ds' r e = e ok
 
-pub ruleset middles = (middle_none, middle_some, rules)
+pub ruleset middles = (middle_none, middle_some, search_rules)
 
 -- ---- the third Wednesdays
 module _ {P : Type 0} (ok : P) (rule : Rule) (mask : ℕ) (closed ds ds' : List ℕ) (r : Done) where

@@ -5,15 +5,14 @@ use mathlib.Core.Bool.{Bool, true, false, false≢true, ◌||◌}
 use denote.Enum.Declared.{tag_of}
 use types.Run.{OneOf}
 use mathlib.Core.List.{List, [], ◌∷◌, ◌++◌}
-use mathlib.Core.Logic.{◌⊎◌, ⊎_elim, inl, inr}
+use mathlib.Core.Logic.{⊎_elim, inl, inr}
 use Prim.Native.Nat.{ℕ, zero, suc, ◌+◌, ◌-◌, ◌≤◌, ◌<◌, min, max}
 use native.Mathlib.Omega.{arith}
 use lib.ListN.{length, get_or, set, take, drop, length-drop}
 use lib.Dec.{eqb}
 use lib.Seq.{drop-drop, drop_at, take_at, take-take, take-nil, drop-nil, length-take-le}
-use borrow.Author.Rules.{rules}
 use borrow.Author.Tests.{eq-eqb, ne_eqb, eqb-true}
-use Rattle.refusal.specs.Answer.{Answer, given, refused, then}
+use Rattle.refusal.specs.Answer.{Answer, given, then}
 use Rattle.refusal.specs.Laws.Answers.{then_given, then_refused, then_stepped, one_given}
 use Rattle.date.specs.declared.Date.{Date}
 use Rattle.date.specs.declared.Dated.{Dated}
@@ -37,7 +36,7 @@ use Rattle.steps.specs.declared.Request.{Request}
 use Rattle.steps.specs.declared.Sure.{Sure}
 use Rattle.steps.specs.Rules.{rules, rule_number, one_of, rule_in_force, is_credit, is_old_cds}
 use Rattle.steps.specs.Finish.{each, moved, on_last, unless, first_move, last_move, middle_move, seed_at_end, adjustments, wednesdays_by, wednesdays}
-use Rattle.steps.specs.Entries.{Pairs, pairs_of}
+use Rattle.steps.specs.Entries.{pairs_of}
 use Rattle.steps.specs.Inner.Same.{same_convention, same_equal}
 use Rattle.steps.specs.Inner.Sure.{Surely}
 use Rattle.steps.specs.Laws.Parts.{each_moved, moved_on, as_many}

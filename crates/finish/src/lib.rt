@@ -1,4 +1,6 @@
 // A build's last steps: third Wednesdays, adjustments, merges, and writing out.
+#![tactic(auto)]
+
 ghost use Rattle.std.specs.Prelude.{◌≡◌, true, ◌≤◌, ◌<◌, length};
 ghost use Rattle.calendar.specs.Open.{closed_ok};
 ghost use Rattle.calendar.specs.Adjust.{adjusted};
@@ -22,7 +24,7 @@ mod merges;
 mod copies;
 
 // Which of the dates are paid already: those from a place up to another.
-#[derive(Drop)]
+#[derive(Clone, Copy)]
 pub struct Paid {
     pub from: usize,
     pub to: usize,
@@ -30,7 +32,7 @@ pub struct Paid {
 
 // What is known of the generated dates: the seed, the tries, which of them are paid, and what a day adjusts to by the convention of
 // the last date.
-#[derive(Drop)]
+#[derive(Clone, Copy)]
 pub struct Made {
     pub seed: u32,
     pub tries: u32,

@@ -1,4 +1,6 @@
 // Forward builds, and those on twentieths and third Wednesdays: from the effective date on to termination.
+#![tactic(auto)]
+
 ghost use Rattle.calendar.specs.Adjust.{adjusted};
 ghost use Rattle.steps.specs.Generate.{forward_from, forward};
 ghost use Rattle.working.specs.Part.{working};

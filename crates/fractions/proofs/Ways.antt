@@ -47,8 +47,8 @@ pub places : (a b x y : ℕ) → 1 ≤ a → a ≤ b → x ≡ place a → y ≡
 places a b x y o h p q = rw (p, q) (place_le a b o h)
 
 -- what `count_of` and `thirties` ask, of two tests of the span
-pub in_turn : (a b : ℕ) (s t : Bool) → s ≡ in_span a → not s ≡ false → t ≡ in_span b → not t ≡ false → a ≤ b → (1 ≤ a) × (a ≤ b) × (b ≤ SPAN_LAST)
-in_turn a b s t p q u v h = (omega (arith, (inside a (sym p ∙ not-false s q)).from), h, (inside b (sym u ∙ not-false t v)).to)
+pub in_turn : (a b : ℕ) (s t : Bool) → s ≡ in_span a → s ≡ true → t ≡ in_span b → t ≡ true → a ≤ b → (1 ≤ a) × (a ≤ b) × (b ≤ SPAN_LAST)
+in_turn a b s t p q u v h = (omega (arith, (inside a (sym p ∙ q)).from), h, (inside b (sym u ∙ v)).to)
 
 module _ (k : Basis) (a b : ℕ) (s : Bool) (p : s ≡ in_span a) where
   pub start_outside : not s ≡ true → refused BOOK ≡ parts_of k a b

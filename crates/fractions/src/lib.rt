@@ -1,4 +1,6 @@
 // Year fractions of a period, as paid: Actual/360, Actual/365 Fixed and 30E/360, as numerator and denominator and as a float.
+#![tactic(auto)]
+
 ghost use Rattle.std.specs.Prelude.{◌≡◌};
 ghost use Rattle.fractions.specs.Fractions.{parted, fraction, under, quotient, parts_of, fraction_of};
 
@@ -9,7 +11,7 @@ mod counts;
 // Sums over the periods of a list of dates.
 pub mod reports;
 
-#[derive(Drop)]
+#[derive(Clone, Copy)]
 pub enum Basis {
     Actual360,
     Actual365,

@@ -2,19 +2,17 @@
 -- Assumes nothing.
 use Prim.Native.Nat.{ℕ, ◌+◌, ◌-◌, ◌*◌, ◌/◌, ◌%◌, ◌≤◌, ◌<◌}
 use mathlib.Core.Path.{◌≡◌, refl, sym, ap, ◌∙◌}
-use mathlib.Core.Bool.{Bool, true, false, false≢true, not, ◌&&◌, ◌||◌}
+use mathlib.Core.Bool.{Bool, true, false, false≢true, ◌&&◌}
 use mathlib.Core.List.{[], ◌∷◌}
 use native.Mathlib.Omega.{arith}
-use lib.Dec.{eqb, leb, ltb}
-use lib.ListN.{length, take, drop}
+use lib.Dec.{eqb, leb}
+use lib.ListN.{take, drop}
 use lib.Seq.{drop-drop}
 use borrow.Author.Rules.{rules}
-use borrow.Author.Tests.{eqb-true, eqb-false, eq-eqb, ne_eqb, le-leb, lt-leb, le-ltb, lt-ltb}
-use Rattle.refusal.specs.Answer.{refused}
+use borrow.Author.Tests.{eqb-true, eqb-false, ne_eqb, le-leb, lt-leb, le-ltb, lt-ltb}
 use Rattle.date.specs.declared.Date.{Date}
 use Rattle.date.specs.declared.Dated.{Dated}
 use Rattle.date.specs.declared.Dated.TheVariants as dated-is
-use Rattle.date.specs.Civil.{day_number}
 use Rattle.date.specs.Date.{dated, make_of}
 use Rattle.date.specs.Laws.Made.{given_day, refused_day}
 use Rattle.holidays.specs.declared.lines.Step.{Step}
@@ -25,13 +23,13 @@ use Rattle.holidays.specs.declared.dates.Clock.{Clock}
 use Rattle.holidays.specs.declared.dates.Said.{Said}
 use Rattle.holidays.specs.declared.dates.Said.TheVariants as said-is
 use Rattle.holidays.specs.Words.{Bytes, pick, ascii, upper, uppers, equal, spells}
-use Rattle.holidays.specs.Content.{Kind, unsaid, date, date_time, strange}
+use Rattle.holidays.specs.Content.{unsaid, date_time}
 use Rattle.holidays.specs.Nesting.{is_blank}
-use Rattle.holidays.specs.Dated.{all_day, timed, bad, exists, is_date, day_of, is_clock, is_date_time, by_kind}
+use Rattle.holidays.specs.Dated.{all_day, timed, bad, is_date, day_of, is_clock, is_date_time, by_kind}
 use Rattle.holidays.specs.Laws.Letters.{spelled_so, spelled_not}
 use Rattle.holidays.specs.Laws.Digits.{Eight, no_century, no_year, no_month, no_day, day_of_pairs, no_hour, no_minute, no_second, is_clock_lem, date_positive, no_date, some_date, whole, no_whole, too_long, time_behind, made_so, made_not}
 use Rattle.holidays.specs.Inner.Letters.{letter, pack, packs}
-use Rattle.holidays.specs.Inner.Along.{ahead, Before, Inside, Took, Steps}
+use Rattle.holidays.specs.Inner.Along.{ahead, Before, Steps}
 use Rattle.holidays.specs.Inner.Digits.{pair_of, Paired, pair_in, ReadsPair, Numbers, day_in, ReadsDay, ReadsClock, zone_in, time_in, kind_of_number, said_is, IsSmallDay, SaysDate}
 use Rattle.holidays.proofs.WordWays.{taken, left, took, none_left, inside_here, inside_on}
 
@@ -301,11 +299,11 @@ module _ {file : Bytes} {at line : ℕ} {r : Step} (s : Steps file at line r) wh
       unfolding packs
       is_t = spelled_so (b ∷ []) "T" (λ z. omega (arith, number_t, z)) same_t (sym p ∙ h ∙ sym number_t)
 
-      pub time_no_clock : c.well-formed ≡ false → false ≡ time_in (ahead file at line)
+      pub time_no_clock : c.good ≡ false → false ≡ time_in (ahead file at line)
       unfolding time_in
       time_no_clock g = rw ((took b i n s e).bytes, is_t, sym t.good ∙ g)
 
-      pub time_zone : {v : Bool} → c.well-formed ≡ true → v ≡ zone_in (ahead file c.at c.line) → v ≡ time_in (ahead file at line)
+      pub time_zone : {v : Bool} → c.good ≡ true → v ≡ zone_in (ahead file c.at c.line) → v ≡ time_in (ahead file at line)
       unfolding time_in
       time_zone g q = q ∙ ap zone_in (t.rest g) ∙ rw ((took b i n s e).bytes, is_t, sym t.good ∙ g)
 

@@ -13,11 +13,9 @@ use mir.Val.{Fits}
 use mir.Syntax.{w32}
 use borrow.Author.Rules.{rules}
 use borrow.Author.Tests.{eqb-true}
-use Rattle.holidays.specs.declared.days.Added.{Added}
 use Rattle.holidays.specs.declared.days.Added.TheVariants as added_is
 use Rattle.holidays.specs.Import.{insert, add}
-use Rattle.holidays.specs.Laws.Listed.{◌∈◌, Ascending}
-use Rattle.holidays.specs.Laws.Set.{add_ascends}
+use Rattle.holidays.specs.Laws.Listed.{◌∈◌}
 use Rattle.holidays.specs.Laws.Places.{insert_old, insert_new, add_next, add_longer}
 use Rattle.holidays.specs.Laws.Bits.{bit_fits, bit_empty}
 use Rattle.holidays.specs.Laws.Days.{map_ascends, bit_in, bit_out, put_days, full_bits, empty_bits, add_there, day_here, no_day_here, no_days}

@@ -5,29 +5,27 @@ use mathlib.Core.Path.{◌≡◌, refl, sym, ap, ◌∙◌}
 use mathlib.Core.Bool.{Bool, true, false}
 use mathlib.Core.List.{List}
 use native.Mathlib.Omega.{arith}
-use lib.Dec.{eqb, leb, ltb}
+use lib.Dec.{eqb, leb}
 use lib.ListN.{length}
 use borrow.Author.Rules.{rules}
 use borrow.Author.Tests.{eqb-true, eqb-false, eq-eqb, ne_eqb, le-leb, lt-leb, le-ltb, lt-ltb}
-use Rattle.refusal.specs.Answer.{BOOK, ROOM, FULL, ICAL, ICALKIND}
 use Rattle.holidays.specs.declared.dates.Said.{Said}
 use Rattle.holidays.specs.declared.dates.Said.TheVariants as said-is
 use Rattle.holidays.specs.declared.days.Added.{Added}
 use Rattle.holidays.specs.declared.days.Added.TheVariants as added_is
 use Rattle.holidays.specs.declared.events.Noted.TheVariants as noted-is
 use Rattle.holidays.specs.declared.events.Closed.TheVariants as closed_is
-use Rattle.holidays.specs.Words.{Bytes, pick}
-use Rattle.holidays.specs.Content.{none, value}
+use Rattle.holidays.specs.Words.{Bytes}
 use Rattle.holidays.specs.Nesting.{Parts}
-use Rattle.holidays.specs.Dated.{Dated, all_day, timed, bad, CYCLE, by_kind, by_value}
+use Rattle.holidays.specs.Dated.{CYCLE, by_value}
 use Rattle.holidays.specs.Events.{nothing, day, blank}
 use Rattle.holidays.specs.Import.{add, with_event, MOST, full, fits}
-use Rattle.holidays.specs.Laws.Exactly.{Here, Turn, goes, stops, check, date_turn, event_of, close_turn, end_turn}
-use Rattle.holidays.specs.Inner.Along.{ahead, Before}
+use Rattle.holidays.specs.Laws.Exactly.{goes, check, date_turn, event_of, close_turn, end_turn}
+use Rattle.holidays.specs.Inner.Along.{ahead}
 use Rattle.holidays.specs.Inner.Digits.{kind_of_number, said_is, IsSmallDay, SaysDate}
 use Rattle.holidays.specs.Inner.Parameters.{said_at}
 use Rattle.holidays.specs.Inner.Days.{FIRST, DAYS, WORDS, days_of, IsAdded, Adds}
-use Rattle.holidays.specs.Inner.Events.{said_of, past_of, Limits, noted_turn, IsNotedDay, Notes, closed_turn, Counted, IsClosedCount, Closes}
+use Rattle.holidays.specs.Inner.Events.{said_of, past_of, Limits, noted_turn, IsNotedDay, Notes, closed_turn, IsClosedCount, Closes}
 use Rattle.holidays.proofs.WordWays.{taken, left}
 
 pub unsaid_day : (n : ℕ) → n ≡ 0 → said_of n ≡ nothing

@@ -10,7 +10,6 @@ use borrow.Author.Rules.{rules}
 use Rattle.holidays.specs.declared.Imported.TheVariants as imported-is
 use Rattle.holidays.specs.declared.walk.Ended.{Ended}
 use Rattle.holidays.specs.declared.walk.Ended.TheVariants as ended_is
-use Rattle.holidays.specs.Words.{Bytes}
 use Rattle.holidays.specs.Import.{Import, days, refused_at_lem, size_ok, import_of}
 use Rattle.holidays.specs.Promise.{answer_of, list_of, Imports}
 use Rattle.holidays.specs.Laws.Turns.{wrong_size}

@@ -15,7 +15,7 @@ use Rattle.holidays.specs.declared.lines.Step.TheVariants.{End, Byte}
 use Rattle.holidays.specs.Words.{Bytes, LF, CR}
 use Rattle.holidays.specs.Lines.{starts_with}
 use Rattle.holidays.specs.Inner.Cut.{Cut, cut_byte, cut_start, cut_from, folds}
-use Rattle.holidays.specs.Inner.Along.{cut_at, ahead, Before, Inside, Took, IsStepped, Steps, Skipping, Eight, Clears, Skipped}
+use Rattle.holidays.specs.Inner.Along.{cut_at, ahead, Before, IsStepped, Steps, Skipping, Clears, Skipped}
 
 -- ---- one byte of a cut: only line feeds, and the byte behind each, count for what lies behind
 cut_byte_lem : (n b : ℕ) (s : Bytes) → eqb b LF ≡ false → ((cut_from false n (b ∷ s)).rest ≡ (cut_from false n s).rest) × ((cut_from false n (b ∷ s)).number ≡ (cut_from false n s).number)

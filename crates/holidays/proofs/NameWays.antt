@@ -1,17 +1,17 @@
 -- Laws of the usual names, compared at once.
 -- Assumes nothing.
-use Prim.Native.Nat.{ℕ, zero, suc, ◌+◌, ◌-◌, ◌≤◌, ◌<◌}
+use Prim.Native.Nat.{ℕ, suc, ◌+◌, ◌-◌, ◌≤◌, ◌<◌}
 use mathlib.Core.Path.{◌≡◌, refl, sym, ap, ◌∙◌, subst}
 use mathlib.Core.Bool.{Bool, true, false, false≢true}
-use mathlib.Core.List.{List, [], ◌∷◌, ◌++◌, append_assoc, append-nil}
+use mathlib.Core.List.{[], ◌∷◌, ◌++◌, append_assoc, append-nil}
 use native.Mathlib.Omega.{arith}
 use lib.ListN.{length, get_or}
 use borrow.Author.Count.{below_more}
 use borrow.Author.Rules.{rules}
 use Rattle.holidays.specs.declared.words.Piece.{Piece}
-use Rattle.holidays.specs.Words.{Bytes, pick, ascii}
+use Rattle.holidays.specs.Words.{Bytes, pick}
 use Rattle.holidays.specs.Content.{turned}
-use Rattle.holidays.specs.Inner.Along.{Before, ahead, Inside}
+use Rattle.holidays.specs.Inner.Along.{Before, ahead}
 use Rattle.holidays.specs.Inner.Letters.{letter, pack}
 use Rattle.holidays.specs.Inner.Others.{Spelt, Stands}
 use Rattle.holidays.specs.Inner.Pieces.{Pieced, is_stop, by_stop, piece, ReadsPiece}

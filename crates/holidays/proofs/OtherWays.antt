@@ -3,7 +3,7 @@
 use Prim.Native.Nat.{ℕ, ◌+◌, ◌<◌}
 use mathlib.Core.Path.{◌≡◌, refl, sym, ap, ◌∙◌}
 use mathlib.Core.Bool.{Bool, true, false, false≢true}
-use mathlib.Core.List.{List, [], ◌∷◌}
+use mathlib.Core.List.{List, ◌∷◌}
 use lib.Dec.{eqb}
 use lib.ListN.{length, get_or}
 use borrow.Author.Tests.{ne_eqb}
@@ -11,11 +11,10 @@ use borrow.Author.Rules.{rules}
 use Rattle.holidays.specs.declared.turns.State.{State}
 use Rattle.holidays.specs.declared.turns.Turn.TheVariants as turn_is
 use Rattle.holidays.specs.Words.{Bytes, pick, upper, uppers, equal, ascii, spells, COLON, SEMICOLON, QUOTE}
-use Rattle.holidays.specs.Lines.{Line}
 use Rattle.holidays.specs.Content.{Content, turned, by_mark, content_from, content_of, other, name_of}
 use Rattle.holidays.specs.Nesting.{After, broken, open_are, after, after_other, is_blank}
 use Rattle.holidays.specs.Events.{in_event}
-use Rattle.holidays.specs.Laws.Exactly.{Here, goes, stops, event_turn, inside_turn, nest_turn, line_turn, blank_turn_of, turn_of}
+use Rattle.holidays.specs.Laws.Exactly.{Here, goes, event_turn, inside_turn, nest_turn, line_turn, blank_turn_of, turn_of}
 use Rattle.holidays.specs.Inner.Along.{Before, ahead, IsStepped}
 use Rattle.holidays.specs.Inner.Days.{days_of}
 use Rattle.holidays.specs.Inner.Others.{Others}

@@ -8,19 +8,19 @@ use native.Mathlib.Omega.{arith}
 use lib.Dec.{eqb, ltb}
 use lib.ListN.{length}
 use borrow.Author.Rules.{rules}
-use borrow.Author.Tests.{eq-eqb, ne_eqb, eqb-true, eqb-false}
+use borrow.Author.Tests.{eq-eqb, ne_eqb, eqb-true}
 use Rattle.holidays.specs.declared.words.Piece.{Piece}
 use Rattle.holidays.specs.declared.parameters.Parameter as code
 use Rattle.holidays.specs.declared.parameters.Value as found
 use Rattle.holidays.specs.Words.{Bytes, pick}
-use Rattle.holidays.specs.Content.{Value, none, value, Content, content_from, Kind, unsaid, date, date_time, strange, parameter_of, kind_in}
+use Rattle.holidays.specs.Content.{none, value, Content, content_from, Kind, unsaid, date, date_time, strange, parameter_of, kind_in}
 use Rattle.holidays.specs.Laws.Pieces.{Plain, plain, Worded, Wordless, Keyed, keyed, own_by, kind_joins, join_assoc, join_unsaid}
 use Rattle.holidays.specs.Inner.Along.{ahead, Before, Inside}
 use Rattle.holidays.specs.Inner.Letters.{packs}
-use Rattle.holidays.specs.Inner.Pieces.{Pieced, piece, ReadsPiece}
+use Rattle.holidays.specs.Inner.Pieces.{piece, ReadsPiece}
 use Rattle.holidays.specs.Inner.Digits.{kind_of_number}
 use Rattle.holidays.specs.Inner.Parameters.{own, one_of, join_kinds, kind_by, KindsOf, Joins, Tail, tail_of, said_at, ReadsParameter, ReadsKinds, ReadsValue}
-use Rattle.holidays.proofs.WordWays.{taken, left, inside_here, inside_on}
+use Rattle.holidays.proofs.WordWays.{inside_here, inside_on}
 
 -- ---- kinds
 module _ (key word : ℕ) where

@@ -1,24 +1,23 @@
 -- Laws of the ways through the open parts: one for each way through the code.
 -- Assumes nothing.
-use Prim.Native.Nat.{ℕ, suc, ◌+◌, ◌≤◌, ◌<◌}
+use Prim.Native.Nat.{ℕ, ◌+◌, ◌≤◌, ◌<◌}
 use mathlib.Core.Path.{◌≡◌, refl, sym, ap, ◌∙◌}
 use mathlib.Core.Bool.{Bool, true, false, not}
-use mathlib.Core.List.{List, [], ◌∷◌}
+use mathlib.Core.List.{List, ◌∷◌}
 use native.Mathlib.Numerals.{add-one}
 use native.Mathlib.Omega.{arith}
 use lib.Dec.{eqb}
 use lib.ListN.{length, get_or, set}
 use borrow.Author.Rules.{rules}
 use borrow.Author.Tests.{eq-eqb, ne_eqb}
-use Rattle.holidays.specs.declared.parts.Opened.{Opened}
 use Rattle.holidays.specs.declared.parts.Opened.TheVariants as opened-is
-use Rattle.holidays.specs.Words.{Bytes, pick, uppers, equal}
+use Rattle.holidays.specs.Words.{Bytes, uppers, equal}
 use Rattle.holidays.specs.Content.{value}
-use Rattle.holidays.specs.Nesting.{Parts, may_begin, may_end, broken, open_are, after_begin}
+use Rattle.holidays.specs.Nesting.{Parts, may_begin, may_end, open_are, after_begin}
 use Rattle.holidays.specs.Laws.Nest.{parts_long, begins_so, part_put, nest_event, nest_kept}
 use Rattle.holidays.specs.Inner.Letters.{packs}
 use Rattle.holidays.specs.Inner.Along.{ahead, Before}
-use Rattle.holidays.specs.Inner.Parts.{parts_of, CALENDAR_IS, EVENT_IS, may_begin_by, NestIsOk, OpensAs, Opens}
+use Rattle.holidays.specs.Inner.Parts.{parts_of, CALENDAR_IS, may_begin_by, NestIsOk, OpensAs, Opens}
 use Rattle.holidays.proofs.WordWays.{taken, left, ahead_any, before_any}
 
 -- ---- what may begin

@@ -3,14 +3,13 @@
 use Prim.Native.Nat.{ℕ, zero, suc, ◌+◌, ◌-◌, ◌*◌, ◌≤◌, ◌<◌, min}
 use mathlib.Core.Path.{◌≡◌, refl, sym, ap, ◌∙◌, subst}
 use mathlib.Core.Bool.{Bool, true, false, ◌&&◌}
-use mathlib.Core.List.{List, [], ◌∷◌}
+use mathlib.Core.List.{List}
 use native.Mathlib.Omega.{arith}
 use lib.Dec.{eqb}
 use lib.ListN.{length, get_or, set, length-set}
 use lib.Seq.{get_or-set_same, get_or-set_other}
 use borrow.Author.Rules.{rules}
 use borrow.Author.Tests.{eq-eqb, ne_eqb, eqb-true, eqb-false}
-use Rattle.refusal.specs.Answer.{ICAL, ICALKIND}
 use Rattle.refusal.specs.Laws.Answers.{both}
 use Rattle.holidays.specs.declared.turns.State.{State}
 use Rattle.holidays.specs.declared.turns.Turn as code
@@ -19,11 +18,11 @@ use Rattle.holidays.specs.declared.parameters.Value as found
 use Rattle.holidays.specs.declared.parts.Opened.{Opened}
 use Rattle.holidays.specs.declared.parts.Opened.TheVariants as opened-is
 use Rattle.holidays.specs.Words.{Bytes, pick, uppers}
-use Rattle.holidays.specs.Content.{Value, none, value, Content, content_of, Kind, kind_in, Name, begin, end, dtstart, dtend, recurring, other, name_of}
+use Rattle.holidays.specs.Content.{Value, value, Content, content_of, Kind, kind_in, begin, end, recurring, other, name_of}
 use Rattle.holidays.specs.Nesting.{Parts, After, after, after_other, is_blank, may_end, within, broken, open_are, after_begin, after_end}
 use Rattle.holidays.specs.Events.{in_event}
 use Rattle.holidays.specs.Laws.Nest.{parts_long, inside_so, nest_less}
-use Rattle.holidays.specs.Laws.Exactly.{Here, Turn, goes, stops, date_turn, end_turn, event_turn, inside_turn, nest_turn, line_turn, blank_turn_of, turn_of}
+use Rattle.holidays.specs.Laws.Exactly.{Here, goes, date_turn, event_turn, inside_turn, nest_turn, line_turn, blank_turn_of, turn_of}
 use Rattle.holidays.specs.Lines.{Line}
 use Rattle.holidays.specs.Inner.Along.{ahead, Before, Inside}
 use Rattle.holidays.specs.Inner.Parameters.{Tail, tail_of, said_at, ReadsValue}
@@ -41,7 +40,7 @@ use Rattle.holidays.specs.Inner.Pieces.{piece, ReadsPiece}
 use Rattle.holidays.specs.Inner.Digits.{kind_of_number}
 use Rattle.holidays.specs.Inner.Days.{WORDS, days_of}
 use Rattle.holidays.specs.Inner.Events.{said_of, noted_turn, IsNotedDay, Notes, closed_turn, Counted, IsClosedCount, Closes}
-use Rattle.holidays.specs.Inner.Turns.{draft_of, here_of, turn_shows, Nested, opened_turn, Begun, IsBegun, Begins, turn_with, Stays, StaysAs, line_of, StartTurns, StopTurns, EventTurns, ClosedState, IsClosedState, CloseTurns, ended_turn, EndState, IsEndState, EndTurns, Keeps, TurnState, IsTurnState, Turned}
+use Rattle.holidays.specs.Inner.Turns.{draft_of, here_of, turn_shows, Nested, opened_turn, IsBegun, Begins, turn_with, Stays, StaysAs, line_of, StartTurns, StopTurns, EventTurns, ClosedState, IsClosedState, CloseTurns, ended_turn, IsEndState, EndTurns, Keeps, IsTurnState, Turned}
 use Rattle.holidays.proofs.EventWays.{said_day}
 use Rattle.holidays.proofs.WordWays.{inside_here, inside_on}
 

@@ -1,13 +1,12 @@
 -- Laws of the usual parameter, VALUE=DATE, read at once.
 -- Assumes nothing.
 use Prim.Native.Nat.{ℕ, ◌+◌, ◌-◌, ◌≤◌, ◌<◌}
-use mathlib.Core.Path.{◌≡◌, refl, sym, ap, ◌∙◌, subst}
+use mathlib.Core.Path.{◌≡◌, sym, ap, ◌∙◌, subst}
 use mathlib.Core.Bool.{Bool, true, false, false≢true}
-use mathlib.Core.List.{List, [], ◌∷◌, ◌++◌, append_assoc}
+use mathlib.Core.List.{[], ◌∷◌, ◌++◌, append_assoc}
 use native.Mathlib.Omega.{arith}
 use lib.ListN.{length, get_or}
 use borrow.Author.Rules.{rules}
-use Rattle.holidays.specs.declared.parameters.Value as found
 use Rattle.holidays.specs.Words.{Bytes, pick, upper, uppers, equal, ascii, spells}
 use Rattle.holidays.specs.Content.{turned, by_mark, content_from, kind_of, by_equals, parameter_of, one_further, by_parameter, kind_in}
 use Rattle.holidays.specs.Inner.Along.{Before, ahead, Inside, IsStepped}

@@ -18,7 +18,7 @@ use Rattle.holidays.specs.declared.turns.Turn.TheVariants as turn_is
 use Rattle.holidays.specs.Words.{Bytes, pick, equal}
 use Rattle.holidays.specs.Lines.{Line, without_mark, lines_of}
 use Rattle.holidays.specs.Nesting.{Parts, is_blank, all_blank, last_of, at_end, nested_from}
-use Rattle.holidays.specs.Laws.Exactly.{Here, Turn, goes, stops, blank_turn_of, turn_of, on_turn, answers, turned, START}
+use Rattle.holidays.specs.Laws.Exactly.{Here, goes, stops, blank_turn_of, turn_of, on_turn, answers, turned, START}
 use Rattle.holidays.specs.Laws.Turns.{from_here, at_start, only_blank}
 use Rattle.holidays.specs.Laws.Walk.{on_cut, walk, cut_shorter, file_walked}
 use Rattle.holidays.specs.Laws.Days.{none_set}
@@ -30,12 +30,12 @@ use Rattle.refusal.specs.Answer.{ICAL}
 use Rattle.holidays.specs.declared.walk.Ended.{Ended}
 use Rattle.holidays.specs.declared.walk.Ended.TheVariants as ended_is
 use Rattle.holidays.proofs.WordWays.{taken, left}
-use Rattle.holidays.specs.Inner.Along.{cut_at, ahead, Before, Inside, Skipped}
+use Rattle.holidays.specs.Inner.Along.{cut_at, ahead, Before, Skipped}
 use Rattle.holidays.specs.Inner.Days.{DAYS, WORDS, days_of}
 use Rattle.holidays.specs.Inner.Parts.{parts_of, NestIsOk}
-use Rattle.holidays.specs.Inner.Events.{said_of, Counted}
+use Rattle.holidays.specs.Inner.Events.{said_of}
 use Rattle.holidays.specs.Inner.Turns.{draft_of, here_of, turn_shows, Nested, Keeps, TurnState, IsTurnState, Turned}
-use Rattle.holidays.specs.Inner.Walking.{Behind, Advances, LineState, IsLineState, Lined, whole, Walking, ended_shows, finished, Finishes, IsEndedCount, Walks, Starts, Cleared}
+use Rattle.holidays.specs.Inner.Walking.{Advances, LineState, IsLineState, Lined, whole, Walking, ended_shows, finished, Finishes, IsEndedCount, Walks, Starts, Cleared}
 
 -- ---- on to the next line
 pub advances : {file : Bytes} {s : State} {p : Place} → Skipped file s.at s.line p → Advances file s (record { at = p.at; line = p.line; depth = s.depth; event = s.event; start = s.start; stop = s.stop; count = s.count })

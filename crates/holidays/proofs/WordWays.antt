@@ -19,7 +19,7 @@ use Rattle.holidays.specs.Content.{turned}
 use Rattle.holidays.specs.Laws.Letters.{spoilt}
 use Rattle.holidays.specs.Inner.Letters.{letter, Lettered, LONG, pack, packs}
 use Rattle.holidays.specs.Inner.Pieces.{Pieced, is_stop, by_stop, piece, ReadsPiece}
-use Rattle.holidays.specs.Inner.Along.{cut_at, ahead, Before, Inside, Took, IsStepped, Steps}
+use Rattle.holidays.specs.Inner.Along.{ahead, Before, Inside, Took, IsStepped, Steps}
 
 -- ---- a selector
 pub taken : {A : Type 0} (b : Bool) (x y : A) → b ≡ true → x ≡ pick b x y

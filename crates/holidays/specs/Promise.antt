@@ -3,7 +3,6 @@
 use Rattle.std.specs.Prelude.{ℕ, ◌≡◌, List, ◌++◌, length, drop}
 use Rattle.holidays.specs.declared.Imported.{Imported}
 use Rattle.holidays.specs.declared.Imported.TheVariants as imported-is
-use Rattle.holidays.specs.Words.{Bytes}
 use Rattle.holidays.specs.Import.{Import, days, refused_at_lem, import_of}
 
 -- how many days, or the number and the line

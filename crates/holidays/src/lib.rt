@@ -1,4 +1,6 @@
 // Holidays from calendar files (RFC 5545): the days of a file's all-day events as a closed list.
+#![tactic(auto)]
+
 ghost use Rattle.std.specs.Prelude.{◌≡◌};
 ghost use Rattle.holidays.specs.Import.{size_ok};
 ghost use Rattle.holidays.specs.Promise.{Imports};

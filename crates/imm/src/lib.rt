@@ -1,4 +1,6 @@
 // IMM dates, and the codes that name them.
+#![tactic(auto)]
+
 ghost use Rattle.std.specs.Prelude.{◌≡◌};
 ghost use Rattle.date.specs.Date.{dated};
 ghost use Rattle.imm.specs.Imm.{tested, coded, is_imm_date, is_imm_in, is_code, code_in, date_in, next_in, next_with_code, next_code_in, next_code_with_code};

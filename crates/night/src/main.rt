@@ -1,18 +1,17 @@
 // Reads a night's book from standard input, and prints for each request its schedule or its refusal; or the refusal of the book.
+#![tactic(auto)]
+
 ghost use Rattle.std.specs.Prelude.{◌≡◌, length};
 
 use book::Booked;
-use libc::{STDIN_FILENO, STDOUT_FILENO};
+use std::io;
+use std::io::{Read, Write};
 
-// A byte more than 64 requests of 65,535 bytes have, so that a longer book is refused. Here and below the `ensures` gives only the
-// length, which lending an array as a slice needs.
-fn input_room() -> [u8; 4194369]
-    ensures { 4194369 ≡ length result }
-{
-    [0; 4194369]
-}
+// So many bytes of standard input are read: one more than 64 requests of 65,535 bytes have, so that a longer book is refused.
+const INPUT: u64 = 4194369;
 
-// Room for 64 schedules of 4,096 dates, so that no request is refused for those before it.
+// Room for 64 schedules of 4,096 dates, so that no request is refused for those before it. Here and below the `ensures` gives only
+// the length, which lending an array as a slice needs.
 fn dates_room() -> [u32; 262144]
     ensures { 262144 ≡ length result }
 {
@@ -42,19 +41,21 @@ fn wide(n: u32) -> usize {
     n as usize
 }
 
-fn put_text(text: &[u8], count: usize) {
+// Where nobody takes the text, as at a closed pipe, it is lost in silence.
+fn put_text(rt: &impl Print, text: &[u8], count: usize) {
     if count <= text.len() {
-        io::write_all(STDOUT_FILENO, &text[..count]);
+        let _ = io::writer(rt).write_all(&text[..count]);
     }
 }
 
-fn print_refusal(number: u8, text: &mut [u8]) {
+fn print_refusal(rt: &impl Print, number: u8, text: &mut [u8]) {
     let count = printing::refusal(number, text);
-    put_text(text, count);
+    put_text(rt, text, count);
 }
 
 // A schedule of so many dates that stands at the start of the lists.
 fn print_schedule(
+    rt: &impl Print,
     count: usize,
     tries: u32,
     dates: &[u32],
@@ -65,13 +66,20 @@ fn print_schedule(
     if count <= dates.len() {
         if count <= unadjusted.len() {
             let n = printing::schedule(tries, &dates[..count], flags, &unadjusted[..count], text);
-            put_text(text, n);
+            put_text(rt, text, n);
         }
     }
 }
 
 // The request whose answer's four numbers these are.
-fn print_answer(answer: &[u32], dates: &[u32], flags: &[u8], unadjusted: &[u32], text: &mut [u8]) {
+fn print_answer(
+    rt: &impl Print,
+    answer: &[u32],
+    dates: &[u32],
+    flags: &[u8],
+    unadjusted: &[u32],
+    text: &mut [u8],
+) {
     if answer.len() < 4 {
         return;
     }
@@ -79,7 +87,7 @@ fn print_answer(answer: &[u32], dates: &[u32], flags: &[u8], unadjusted: &[u32],
     let number = answer[3];
     if number != 0 {
         if number < 256 {
-            print_refusal(number as u8, text);
+            print_refusal(rt, number as u8, text);
         }
         return;
     }
@@ -93,6 +101,7 @@ fn print_answer(answer: &[u32], dates: &[u32], flags: &[u8], unadjusted: &[u32],
         return;
     }
     print_schedule(
+        rt,
         wide(answer[0]),
         answer[2],
         &dates[start..],
@@ -103,6 +112,7 @@ fn print_answer(answer: &[u32], dates: &[u32], flags: &[u8], unadjusted: &[u32],
 }
 
 fn print_answers(
+    rt: &impl Print,
     n: usize,
     answers: &[u32],
     dates: &[u32],
@@ -116,28 +126,29 @@ fn print_answers(
             return;
         }
         let place = 4 * i;
-        print_answer(&answers[place..], dates, flags, unadjusted, text);
+        print_answer(rt, &answers[place..], dates, flags, unadjusted, text);
         i += 1;
     }
 }
 
-fn main() {
-    let mut input = input_room();
+fn main(rt: HostRuntime) -> io::Result<()> {
+    let mut input = Vec::new(rt.alloc());
     let mut dates = dates_room();
     let mut flags = flags_room();
     let mut unadjusted = dates_room();
     let mut answers = answers_room();
     let mut text = text_room();
-    let got = io::read_full(STDIN_FILENO, &mut input);
+    rt.reader().take(INPUT).read_to_end(&mut input)?;
     match book::build(
-        &input[..got],
+        &input,
         &mut dates,
         &mut flags,
         &mut unadjusted,
         &mut answers,
     ) {
-        Booked::Refused(k) => print_refusal(k, &mut text),
+        Booked::Refused(k) => print_refusal(&rt, k, &mut text),
         Booked::Answered(n) => print_answers(
+            &rt,
             n as usize,
             &answers,
             &dates,
@@ -146,4 +157,5 @@ fn main() {
             &mut text,
         ),
     }
+    Ok(())
 }

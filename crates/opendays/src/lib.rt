@@ -1,5 +1,7 @@
 // Open days by index: a list of 601 running counts beside a calendar, one for the start of each year from 1800 to 2400. It answers how
 // many open days lie between two dates, and which is the n-th open day after a date, without a walk over the days.
+#![tactic(auto)]
+
 ghost use Rattle.std.specs.Prelude.{◌≡◌, true};
 ghost use Rattle.date.specs.Date.{dated, numbered};
 ghost use Rattle.calendar.specs.Open.{calendar_ok};

@@ -24,7 +24,7 @@ use Rattle.steps.specs.Rules.{is_credit, is_old_cds, on_twentieths}
 use Rattle.steps.specs.Twentieths.{next_twentieth, previous_twentieth}
 use Rattle.steps.specs.Generate.{Lists, Opened, nothing, newest, put, put_earlier, credit_opening, opening_by, opening, far_enough, is_near, coming_twentieth, put_seed, put_coming, put_twentieth, tenor_on, put_first, second}
 use Rattle.steps.specs.Finish.{same_flag}
-use Rattle.working.specs.Step.{Gives, does, refuses, gives_as}
+use Rattle.working.specs.Step.{Gives, refuses, gives_as}
 use Rattle.working.specs.Part.{Work, Part, Placed, Begun, Fresh, held, last_day, fills}
 use Rattle.working.specs.Dates.{dates, regrouped}
 use Rattle.working.specs.Held.{no_room, has_room, newest_read}

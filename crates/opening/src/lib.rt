@@ -1,4 +1,6 @@
 // The first two dates of a forward build.
+#![tactic(auto)]
+
 ghost use Rattle.calendar.specs.Adjust.{adjusted};
 ghost use Rattle.steps.specs.Generate.{opened};
 ghost use Rattle.working.specs.Part.{working, Fresh};

@@ -1,11 +1,13 @@
 // A length of time: a signed count of days, weeks, months or years.
+#![tactic(auto)]
+
 ghost use Rattle.std.specs.Prelude.{◌≡◌};
 ghost use Rattle.period.specs.Period.{product, times_of};
 
 // The sign and the size of a count.
 pub mod sign;
 
-#[derive(Drop)]
+#[derive(Clone, Copy)]
 pub enum Unit {
     Days,
     Weeks,
@@ -13,13 +15,13 @@ pub enum Unit {
     Years,
 }
 
-#[derive(Drop)]
+#[derive(Clone, Copy)]
 pub struct Period {
     pub length: i32,
     pub unit: Unit,
 }
 
-#[derive(Drop)]
+#[derive(Clone, Copy)]
 pub enum Product {
     Period(Period),
     Refused(u8),

@@ -1,6 +1,6 @@
 -- A law for each way through `is_straight` and `is_plain`.
 -- Assumes nothing.
-use mathlib.Core.Path.{◌≡◌, refl, sym, ap, ◌∙◌}
+use mathlib.Core.Path.{◌≡◌, sym, ap, ◌∙◌}
 use mathlib.Core.Bool.{Bool, true, false, false≢true, not, ◌&&◌}
 use lib.Dec.{eqb}
 use borrow.Author.Rules.{rules}

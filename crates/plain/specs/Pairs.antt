@@ -6,7 +6,7 @@ use Rattle.date.specs.Civil.{leap, row_of, month_length, gone, sum_to, day_numbe
 use Rattle.date.specs.Date.{in_book, within_span, make_of, last_of_month, month_index, in_month, step, shift_days, shift_months, shifted, nth_weekday_of}
 use Rattle.calendar.specs.Open.{weekly_closed, member, is_open_day, ascending, closed_ok, calendar_ok}
 use Rattle.calendar.specs.AnyCalendar as any
-use Rattle.calendar.specs.Adjust.{in_span, taken_or, same_month, unless_left, modified, towards}
+use Rattle.calendar.specs.Adjust.{in_span, taken_or, same_month, unless_left, towards}
 use Rattle.calendar.specs.Calendar.{longest, tenor_ok}
 use Rattle.steps.specs.Rules.{rule_number, one_of, is_zero, is_backward, on_twentieths, in_imm_months, is_credit, is_old_cds, rule_under, is_none, rule_in_force, tenor_under, tenor_in_force, pace_by, pace_of}
 use Rattle.steps.specs.Table.{number_or, first_row, is_given, anchor_ok, dates_ok, by_range, by_imm, out_of_range, not_imm, wrong_rule, first_outside, last_outside, monthend_allowed, in_days, short_end, anchor_rows, first_rows, last_rows, rows_under, input_rows}

@@ -1,13 +1,12 @@
 -- Refusal 27 beside each other refusal of a build: the requests meet the row of 27 and that of another, and 1 to 12 come first, what the
 -- steps meet afterwards. (A negative tenor, 4, is not positive.)
 -- Assumes nothing.
-use Rattle.std.specs.Prelude.{ℕ, ◌≡◌, refl, Bool, true, false, List, [], ◌∷◌, pos}
+use Rattle.std.specs.Prelude.{ℕ, ◌≡◌, refl, true, List, [], ◌∷◌, pos}
 use Rattle.refusal.specs.Answer.{Answer, refused}
 use Rattle.period.specs.declared.Unit.{Unit}
 use Rattle.period.specs.declared.Unit.TheVariants.{Days, Weeks}
 use Rattle.date.specs.Civil.{leap, row_of, month_length, gone, sum_to, day_number, guess, years_gone, month_in, day_in, place_of, fields_at, weekday_of}
 use Rattle.date.specs.Date.{in_book}
-use Rattle.calendar.specs.declared.Convention.{Convention}
 use Rattle.calendar.specs.declared.Convention.TheVariants.{Unadjusted, ModifiedPreceding}
 use Rattle.calendar.specs.Open.{ascending, closed_ok, calendar_ok}
 use Rattle.calendar.specs.Calendar.{longest, tenor_ok}

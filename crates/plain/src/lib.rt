@@ -1,4 +1,6 @@
 // The plain builds: those of which demand 3 says the whole list in one sentence (specs/Demand.antt).
+#![tactic(auto)]
+
 ghost use Rattle.std.specs.Prelude.{◌≡◌};
 ghost use Rattle.period.specs.Period.{is_positive};
 ghost use Rattle.plain.specs.Demand.{PlainIf};

@@ -1,4 +1,6 @@
 // What the program prints: a schedule a line a date, or a refusal's number.
+#![tactic(auto)]
+
 ghost use Rattle.std.specs.Prelude.{◌≡◌, ◌+◌, ◌-◌, ◌*◌, ◌≤◌, ◌++◌, leb, length};
 ghost use Rattle.printing.specs.Text.{schedule_text, refusal_text, DATES, TRIES};
 ghost use Rattle.printing.specs.Put.{Put, fitting};

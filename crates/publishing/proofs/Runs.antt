@@ -19,7 +19,7 @@ use Rattle.holidays.specs.Words.{Bytes}
 use Rattle.publishing.specs.File.{Run, joined, runs_from, runs_of, event_lines, all_events, written}
 use Rattle.publishing.specs.Inner.Runs.{new_by, is_new}
 use Rattle.publishing.specs.Inner.Put.{Put}
-use Rattle.publishing.specs.Laws.Sizes.{written_more, event_size, events_size}
+use Rattle.publishing.specs.Laws.Sizes.{written_more, events_size}
 use Rattle.publishing.proofs.Putting.{put_none, put_then}
 
 pub no_new : (day past : ℕ) → day ≡ past → 0 ≡ is_new day past

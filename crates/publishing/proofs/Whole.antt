@@ -15,7 +15,6 @@ use Rattle.refusal.specs.Answer.{Answer, given, refused, need, CALENDAR, ROOM, I
 use Rattle.refusal.specs.Laws.Answers.{fails, holds}
 use Rattle.calendar.specs.Open.{closed_ok}
 use Rattle.holidays.specs.Words.{Bytes, ascii}
-use Rattle.publishing.specs.declared.Exported.{Exported}
 use Rattle.publishing.specs.declared.Exported.TheVariants as exported-is
 use Rattle.publishing.specs.File.{before, behind, all_events, written, runs_of, file_of, export_of}
 use Rattle.publishing.specs.Promise.{answer_of, bytes_of, Exports}

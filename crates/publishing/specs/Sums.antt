@@ -1,8 +1,8 @@
 -- Document 02, L10: a list and its file, computed; and the import of that file.
 -- Assumes nothing.
-use Rattle.std.specs.Prelude.{ℕ, ◌≡◌, refl, List, [], ◌∷◌}
-use Rattle.holidays.specs.Words.{Bytes, ascii}
-use Rattle.date.specs.Civil.{leap, row_of, month_length, gone, guess, years_gone, month_in, day_in, place_of, fields_at}
+use Rattle.std.specs.Prelude.{◌≡◌, refl, [], ◌∷◌}
+use Rattle.holidays.specs.Words.{ascii}
+use Rattle.date.specs.Civil.{leap, row_of, gone, guess, years_gone, month_in, day_in, place_of, fields_at}
 use Rattle.publishing.specs.File.{joined, runs_from, runs_of, date_text, before, behind, event_lines, all_events, written, file_of}
 
 -- 1 and 2 May 2025, and 31 December 2399

@@ -1,4 +1,6 @@
 // A closed list as a calendar file (RFC 5545).
+#![tactic(auto)]
+
 ghost use Rattle.std.specs.Prelude.{◌≡◌, true, ◌+◌, ◌*◌, ◌≤◌, length};
 ghost use Rattle.calendar.specs.Open.{closed_ok};
 ghost use Rattle.publishing.specs.File.{runs_of, file_of};

@@ -1,5 +1,7 @@
 // A build and its record in seven numbers: the refusal's number or 0, the count of dates, the tries, the rule in force, the size and the
 // unit of the tenor in force, and how far the dates moved at most.
+#![tactic(auto)]
+
 ghost use Rattle.std.specs.Prelude.{◌≡◌, ◌≤◌, length};
 ghost use Rattle.steps.specs.Build.{over};
 ghost use Rattle.crossing.specs.Requests.{asked};

@@ -1,16 +1,22 @@
 // Replays stored answers of the Rust's through the functions that customers call, and prints how many agree and which is the
 // first that does not. The file `answers` is a text of numbers; oracle/replay.py makes it and says what they stand for.
+#![tactic(auto)]
+
 ghost use Rattle.std.specs.Prelude.{◌≡◌, length};
 
 use capi::builds::heronspan_build;
-use libc::STDOUT_FILENO;
+use std::io::Read;
 use std::num::wrapping_add_u32;
+use std::{fs, io};
 use words::{field, same, same_flags, signed, small, word};
 
 // The stored numbers.
 mod words;
 // Questions other than builds.
 mod questions;
+
+// So many bytes of the file are read, and none after them.
+const TEXT: u64 = 1048576;
 
 // How the records so far compare: the place of the next one, how many were asked, how many agreed, and the first that did
 // not, counted from 1 (0: none).
@@ -163,16 +169,12 @@ fn replay(words: &[u32]) -> Tally {
     t
 }
 
-fn print(t: Tally) {
-    io::print_decimal(STDOUT_FILENO, t.agreed as u64);
-    io::write_all(STDOUT_FILENO, b" of ");
-    io::print_decimal(STDOUT_FILENO, t.asked as u64);
-    io::write_all(STDOUT_FILENO, b" answers agree\n");
+fn print(rt: &impl Print, t: Tally) -> io::Result<()> {
+    println!(rt; "{} of {} answers agree", t.agreed, t.asked)?;
     if t.first != 0 {
-        io::write_all(STDOUT_FILENO, b"the first that does not is number ");
-        io::print_decimal(STDOUT_FILENO, t.first as u64);
-        io::write_all(STDOUT_FILENO, b"\n");
+        println!(rt; "the first that does not is number {}", t.first)?;
     }
+    Ok(())
 }
 
 // Room for the numbers. The `ensures` gives only the length, which lending an array as a slice needs.
@@ -182,8 +184,10 @@ fn words_room() -> [u32; 196608]
     [0; 196608]
 }
 
-fn main() {
+fn main(rt: HostRuntime) -> io::Result<()> {
     let mut words = words_room();
-    words::read_numbers(os::open_read(b"answers"), &mut words);
-    print(replay(&words));
+    let mut text = Vec::new(rt.alloc());
+    fs::open(&rt, "answers")?.take(TEXT).read_to_end(&mut text)?;
+    words::read_numbers(&text, &mut words);
+    print(&rt, replay(&words))
 }

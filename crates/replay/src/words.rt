@@ -57,18 +57,14 @@ fn read_piece(text: &[u8], before: Reading, words: &mut [u32]) -> Reading {
     r
 }
 
-// The numbers of a file of up to a million bytes, into the start of `words`.
-pub(crate) fn read_numbers(file: i32, words: &mut [u32]) {
-    let mut r = Reading {
+// The numbers of a text, into the start of `words`.
+pub(crate) fn read_numbers(text: &[u8], words: &mut [u32]) {
+    let r = Reading {
         k: 0,
         value: 0,
         inside: false,
     };
-    let mut piece = io::large_buffer();
-    for k in 0..16u32 {
-        let size = io::read_full(file, &mut piece);
-        r = read_piece(&piece[..size], r, words);
-    }
+    read_piece(text, r, words);
 }
 
 // The number at a place, 0 beyond the end.

@@ -1,4 +1,6 @@
 // From the bytes of a request to the text of its schedule.
+#![tactic(auto)]
+
 ghost use Rattle.std.specs.Prelude.{◌≡◌, ◌≤◌, length};
 ghost use Rattle.steps.specs.Entries.{entries_of};
 ghost use Rattle.printing.specs.Put.{Put, fitting};

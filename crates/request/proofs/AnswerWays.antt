@@ -9,7 +9,7 @@ use borrow.Author.Rules.{rules}
 use borrow.Author.Tests.{eq-eqb, eqb-true, eqb-false, le-leb, lt-leb}
 use lib.Dec.{eqb, leb}
 use lib.ListN.{length, get_or, take, drop, replicate}
-use Rattle.refusal.specs.Answer.{Answer, given, refused, need, then}
+use Rattle.refusal.specs.Answer.{given, refused}
 use Rattle.refusal.specs.Laws.Answers.{fails, holds, then_given, then_refused}
 use Rattle.steps.specs.declared.Request.{Request}
 use Rattle.steps.specs.Build.{over}

@@ -1,12 +1,12 @@
 -- Laws of what the fields ask for: one for each way through the code.
 -- Assumes nothing.
-use Prim.Native.Nat.{ℕ, zero, ◌+◌, ◌-◌, ◌/◌, ◌%◌, ◌≤◌, ◌<◌}
+use Prim.Native.Nat.{ℕ, ◌+◌, ◌-◌, ◌/◌, ◌%◌, ◌≤◌, ◌<◌}
 use mathlib.Core.Path.{◌≡◌, refl, sym, ap, ◌∙◌}
 use mathlib.Core.Bool.{Bool, true, false, ◌&&◌, false≢true}
 use mathlib.Core.List.{List, [], ◌∷◌}
 use native.Mathlib.Nat.{add-zero}
 use native.Mathlib.Omega.{arith}
-use borrow.Author.Rules.{rules}
+use borrow.Author.Rules.{rules as search_rules}
 use borrow.Author.Tests.{eq-eqb, ne_eqb, eqb-true}
 use lib.Dec.{eqb, leb}
 use lib.IntN.{ℤ, pos}
@@ -23,7 +23,7 @@ use Rattle.calendar.specs.declared.Convention.{Convention}
 use Rattle.steps.specs.declared.Rule.{Rule}
 use Rattle.calendar.specs.Adjust.{conventions}
 use Rattle.steps.specs.Rules.{rules}
-use Rattle.request.specs.Format.{pick, two, four, signed16, is_date, is_tenor, is_below, are_dates, body_ok, byte_of, date_of, unit_of, tenor_of, rule_of, convention_of, request_from}
+use Rattle.request.specs.Format.{pick, four, signed16, is_date, is_tenor, is_below, are_dates, body_ok, byte_of, date_of, unit_of, tenor_of, rule_of, convention_of, request_from}
 use Rattle.request.specs.Laws.Picks.{taken, left}
 use Rattle.request.specs.Inner.Places.{two_at, Pair, body_at, Sized, Lies, PlacesKept}
 
@@ -62,7 +62,7 @@ module _ (bytes : List ℕ) (place : ℕ) (some : place ≡ 0 → ⊥) (lies : (
       let d : get_or (body_at bytes [] place) 3 0 ≡ get_or bytes (place + 3) 0 = byte_there bytes some (lies some) [] 3 (omega arith) in
       cc
 
-pub ruleset dates = (date_none, date_inside, date_some, rules)
+pub ruleset dates = (date_none, date_inside, date_some, search_rules)
 
 -- ---- bytes
 pub byte_none : (bytes : List ℕ) (place absent : ℕ) → place ≡ 0 → absent ≡ byte_of (body_at bytes (absent ∷ []) place)
@@ -75,7 +75,7 @@ module _ (bytes : List ℕ) (place : ℕ) (some : place ≡ 0 → ⊥) (lies : (
   pub byte_some : (absent : ℕ) → get_or bytes place 0 ≡ byte_of (body_at bytes (absent ∷ []) place)
   byte_some absent = sym (byte_there bytes some (lies some) (absent ∷ []) 0 (omega arith) ∙ ap (λ (k : ℕ). get_or bytes k 0) (add-zero place))
 
-pub ruleset single = (byte_none, byte_inside, byte_some, rules)
+pub ruleset single = (byte_none, byte_inside, byte_some, search_rules)
 
 -- ---- tenors
 pub tenor_none : (bytes : List ℕ) (place : ℕ) → place ≡ 0 → record { length = pos 0; unit = Days } ≡ tenor_of (body_at bytes (68 ∷ 0 ∷ 0 ∷ []) place)
@@ -101,7 +101,7 @@ module _ (bytes : List ℕ) (place : ℕ) (some : place ≡ 0 → ⊥) (lies : (
       let m : r ≡ two_at bytes (place + 1) = p.same in
       cc
 
-pub ruleset tenors = (tenor_none, tenor_inside, tenor_behind, tenor_some, rules)
+pub ruleset tenors = (tenor_none, tenor_inside, tenor_behind, tenor_some, search_rules)
 
 -- ---- how many closed dates
 pub count_none : (bytes : List ℕ) (place : ℕ) → place ≡ 0 → 0 ≡ length (body_at bytes [] place) / 4
@@ -117,7 +117,7 @@ module _ (bytes : List ℕ) (place : ℕ) (some : place ≡ 0 → ⊥) (lies : (
   pub count_some : {r : ℕ} → Pair bytes (place - 2) r → r / 4 ≡ length (body_at bytes [] place) / 4
   count_some p = ap (λ (k : ℕ). k / 4) (p.same ∙ sym (long_there bytes some (lies some).sized []))
 
-pub ruleset counts = (count_none, count_after, count_inside, count_some, rules)
+pub ruleset counts = (count_none, count_after, count_inside, count_some, search_rules)
 
 -- ---- the bodies at the places that are kept have the widths of their tags
 first_of : (a b : Bool) → a && b ≡ true → a ≡ true
@@ -191,7 +191,7 @@ module _ {bytes places : List ℕ} (k : PlacesKept bytes places) where
   unfolding body_ok pick
   kept_10 = sized_by 10 1 (byte_wide 128)
 
-pub ruleset kept = (kept_1, kept_2, kept_3, kept_4, kept_5, kept_6, kept_7, kept_8, kept_9, kept_10, rules)
+pub ruleset kept = (kept_1, kept_2, kept_3, kept_4, kept_5, kept_6, kept_7, kept_8, kept_9, kept_10, search_rules)
 
 -- ---- a request, field by field
 pub request_is : (body : List ℕ → ℕ → List ℕ) {effective termination first penultimate : Date} {tenor : Period} {rule : Rule} {convention terminal : Convention} {r c t m mask : ℕ}

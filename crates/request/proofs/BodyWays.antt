@@ -5,7 +5,7 @@ use mathlib.Core.Path.{◌≡◌, refl, sym, ap, ◌∙◌}
 use mathlib.Core.Bool.{Bool, true, false, ◌&&◌}
 use mathlib.Core.List.{List, [], ◌∷◌}
 use native.Mathlib.Omega.{arith}
-use borrow.Author.Rules.{rules}
+use borrow.Author.Rules.{rules as search_rules}
 use borrow.Author.Tests.{le-leb, lt-leb, eq-eqb, ne_eqb}
 use lib.Dec.{eqb, leb, ltb}
 use lib.ListN.{length, get_or, drop}
@@ -60,7 +60,7 @@ module _ {b : ℕ} where
   unfolding unit_of
   unit_rest h68 h87 h77 = sym (left _ _ (ne_eqb _ _ h68) ∙ left _ _ (ne_eqb _ _ h87) ∙ left _ _ (ne_eqb _ _ h77))
 
-pub ruleset units = (unit_68, unit_87, unit_77, unit_rest, rules)
+pub ruleset units = (unit_68, unit_87, unit_77, unit_rest, search_rules)
 
 module _ {b : ℕ} where
   pub rule_0 : b ≡ 0 → Zero ≡ rule_of b
@@ -105,7 +105,7 @@ module _ {b : ℕ} where
       last_of ruleList 9 b CDS2015 refl
       (past 8 b (past 7 b (past 6 b (past 5 b (past 4 b (past 3 b (past 2 b (past 1 b (past 0 b (omega arith) h0) h1) h2) h3) h4) h5) h6) h7) h8)
 
-pub ruleset rules = (rule_0, rule_1, rule_2, rule_3, rule_4, rule_5, rule_6, rule_7, rule_8, rule_rest, rules)
+pub ruleset rules = (rule_0, rule_1, rule_2, rule_3, rule_4, rule_5, rule_6, rule_7, rule_8, rule_rest, search_rules)
 
 module _ {b : ℕ} where
   pub convention_0 : b ≡ 0 → Unadjusted ≡ convention_of b
@@ -129,7 +129,7 @@ module _ {b : ℕ} where
   convention_rest h0 h1 h2 h3 =
       last_of conventionList 4 b ModifiedPreceding refl (past 3 b (past 2 b (past 1 b (past 0 b (omega arith) h0) h1) h2) h3)
 
-pub ruleset conventions = (convention_0, convention_1, convention_2, convention_3, convention_rest, rules)
+pub ruleset conventions = (convention_0, convention_1, convention_2, convention_3, convention_rest, search_rules)
 
 module _ {b : ℕ} where
   pub letter_68 : b ≡ 68 → true ≡ is_letter b
@@ -152,7 +152,7 @@ module _ {b : ℕ} where
   unfolding is_letter
   letter_rest h68 h87 h77 h89 = sym (left _ _ (ne_eqb _ _ h68) ∙ left _ _ (ne_eqb _ _ h87) ∙ left _ _ (ne_eqb _ _ h77) ∙ ne_eqb _ _ h89)
 
-pub ruleset letters = (letter_68, letter_87, letter_77, letter_89, letter_rest, rules)
+pub ruleset letters = (letter_68, letter_87, letter_77, letter_89, letter_rest, search_rules)
 
 -- ---- a tenor, a byte
 pub tenor_is : (s : List ℕ) {r : Bool} → length s ≡ 3 → r ≡ is_letter (get_or s 0 0) → r ≡ is_tenor s
@@ -163,7 +163,7 @@ pub tenor_no : (s : List ℕ) → (length s ≡ 3 → ⊥) → false ≡ is_teno
 unfolding is_tenor
 tenor_no s h = first_fails _ (ne_eqb _ _ h)
 
-pub ruleset tenors = (tenor_is, tenor_no, rules)
+pub ruleset tenors = (tenor_is, tenor_no, search_rules)
 
 pub below_is : (limit : ℕ) (s : List ℕ) → length s ≡ 1 → ltb (get_or s 0 0) limit ≡ is_below limit s
 unfolding is_below
@@ -173,7 +173,7 @@ pub below_no : (limit : ℕ) (s : List ℕ) → (length s ≡ 1 → ⊥) → fal
 unfolding is_below
 below_no limit s h = first_fails _ (ne_eqb _ _ h)
 
-pub ruleset belows = (below_is, below_no, rules)
+pub ruleset belows = (below_is, below_no, search_rules)
 
 -- ---- a body, by its tag
 module _ (s : List ℕ) {tag : ℕ} where
@@ -232,4 +232,4 @@ module _ (s : List ℕ) {tag : ℕ} where
   body_none h1 h2 h3 h4 h5 h6 h7 h8 h9 h10 h11 =
       sym (left _ _ (ne_eqb _ _ h1) ∙ left _ _ (ne_eqb _ _ h2) ∙ left _ _ (ne_eqb _ _ h3) ∙ left _ _ (ne_eqb _ _ h4) ∙ left _ _ (ne_eqb _ _ h5) ∙ left _ _ (ne_eqb _ _ h6) ∙ left _ _ (ne_eqb _ _ h7) ∙ left _ _ (ne_eqb _ _ h8) ∙ left _ _ (ne_eqb _ _ h9) ∙ left _ _ (ne_eqb _ _ h10) ∙ left _ _ (ne_eqb _ _ h11))
 
-pub ruleset bodies = (body_1, body_2, body_3, body_4, body_5, body_6, body_7, body_8, body_9, body_10, body_11_many, body_11, body_none, rules)
+pub ruleset bodies = (body_1, body_2, body_3, body_4, body_5, body_6, body_7, body_8, body_9, body_10, body_11_many, body_11, body_none, search_rules)

@@ -13,9 +13,8 @@ use lib.ListN.{length, get_or, take, drop, length-drop}
 use lib.Seq.{get_or-drop, drop-drop, length-take-le}
 use Rattle.refusal.specs.Answer.{Answer, given, refused, need, then}
 use Rattle.refusal.specs.Laws.Answers.{fails, holds, then_given, then_refused}
-use Rattle.request.specs.declared.fields.Step.{Step}
 use Rattle.request.specs.declared.fields.Step.TheVariants.{Broken, End, Next}
-use Rattle.request.specs.Format.{two, body_ok, Field, Cut, size_in, cut_at, cut_of, last_tag, is_end, on_field, on_cut}
+use Rattle.request.specs.Format.{body_ok, Field, Cut, size_in, cut_at, cut_of, last_tag, is_end, on_field, on_cut}
 use Rattle.request.proofs.BodyWays.{body_none}
 use Rattle.request.specs.Inner.Places.{two_at, Pair, stepped, IsFramed, Steps}
 

@@ -1,6 +1,6 @@
 -- Laws of bodies without headers: one for each way through the code.
 -- Assumes nothing.
-use Prim.Native.Nat.{ℕ, zero, suc, ◌+◌, ◌*◌, ◌/◌, ◌≤◌, ◌<◌}
+use Prim.Native.Nat.{ℕ, ◌+◌, ◌*◌, ◌/◌, ◌≤◌, ◌<◌}
 use mathlib.Core.Path.{◌≡◌, refl, sym, ap, ◌∙◌}
 use mathlib.Core.Bool.{Bool, true, false, ◌&&◌}
 use mathlib.Core.List.{List, [], ◌∷◌}
@@ -15,7 +15,7 @@ use lib.Seq.{get_or-take, get_or-drop, length-take-le}
 use mir.Syntax.{w32}
 use mir.Val.{SFits, to_z, of_z}
 use mir.Facts.{to_z-of_z}
-use Rattle.refusal.specs.Answer.{Answer, given, refused, need}
+use Rattle.refusal.specs.Answer.{given}
 use Rattle.refusal.specs.Laws.Answers.{fails, holds}
 use Rattle.period.specs.declared.Unit.{Unit}
 use Rattle.period.specs.declared.Unit.TheVariants.{Days}
@@ -27,7 +27,7 @@ use Rattle.steps.specs.declared.Request.{Request}
 use Rattle.steps.specs.Build.{over}
 use Rattle.request.specs.declared.Decoded.{Decoded}
 use Rattle.request.specs.declared.Decoded.TheVariants as decoded-is
-use Rattle.request.specs.Format.{pick, two, four, signed16, is_date, byte_of, date_of, unit_of, tenor_of, rule_of, convention_of, dates_of, request_from, closed_from, Asked, asked_from}
+use Rattle.request.specs.Format.{pick, four, signed16, is_date, byte_of, date_of, unit_of, tenor_of, rule_of, convention_of, dates_of, request_from, closed_from, asked_from}
 use Rattle.request.specs.Laws.Picks.{taken, left}
 use Rattle.request.specs.Inner.Places.{two_at, Pair, dates_at}
 use Rattle.request.specs.Decode.{answered, closed_dates_after, Decodes}

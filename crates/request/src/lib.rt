@@ -1,4 +1,6 @@
 // Requests as bytes: tagged fields, each framed by its length.
+#![tactic(auto)]
+
 ghost use Rattle.std.specs.Prelude.{length};
 ghost use Rattle.request.specs.Format.{asked_from, decoded};
 ghost use Rattle.request.specs.Inner.Places.{PlacesKept, placed, Blank};
@@ -25,7 +27,7 @@ pub mod stored;
 mod writing;
 
 // How many closed dates stand in the lent list; or the refusal.
-#[derive(Drop)]
+#[derive(Clone, Copy)]
 pub enum Decoded {
     Asked { request: Request, closed: usize },
     Refused(u8),

@@ -30,7 +30,7 @@ use Rattle.working.specs.Part.{Work, working, Part, Placed}
 use Rattle.finish.specs.Finishing.{Lent, completed}
 use Rattle.finish.specs.Laws.Lending.{lent_fits, completed_on, written_as}
 use Rattle.finish.specs.Paying.{PaidAlready}
-use Rattle.working.specs.Making.{Checked, piece, generated, Lies, Pays, Laid, Generates}
+use Rattle.working.specs.Making.{Checked, piece, generated, Laid, Generates}
 
 -- ---- Zero
 pub zero_size : {room n : ℕ} {w : Work} → Placed room n w → n ≤ 4096

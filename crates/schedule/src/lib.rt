@@ -1,4 +1,6 @@
 // Payment schedules, built in three working lists of 4,096 places.
+#![tactic(auto)]
+
 ghost use Rattle.std.specs.Prelude.{◌≡◌, true, not, ◌+◌, ◌-◌, ◌≤◌, min, eqb, length, take, drop};
 ghost use Rattle.refusal.specs.Answer.{then, UNEVEN};
 ghost use Rattle.calendar.specs.Open.{closed_ok};

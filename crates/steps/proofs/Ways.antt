@@ -9,8 +9,6 @@ use lib.Dec.{eqb}
 use lib.IntN.{ℤ, pos, negsuc}
 use mir.Syntax.{w32}
 use mir.Val.{SFits, of_z}
-use denote.Enum.Declared.{tag_of}
-use types.Run.{OneOf}
 use borrow.Author.Rules.{rules}
 use borrow.Author.Tests.{ne_eqb, eq-eqb}
 use Rattle.refusal.specs.Answer.{Answer, given}
@@ -24,18 +22,11 @@ use Rattle.calendar.specs.Adjust.{at_month_end}
 use Rattle.steps.specs.declared.Rule.TheVariants.{Zero}
 use Rattle.steps.specs.declared.Request.{Request}
 use Rattle.steps.specs.declared.Rule.{Rule}
-use Rattle.steps.specs.Rules.{rules, rule_number, is_none, rule_under, rule_in_force, is_zero, is_backward, tenor_under, tenor_in_force}
-use Rattle.steps.specs.Laws.Rules.{keys_of, tags_are, told}
-use Rattle.steps.specs.contracts.Rule.{the_type}
+use Rattle.steps.specs.Rules.{is_none, rule_under, rule_in_force, is_zero, tenor_under, tenor_in_force}
 use Rattle.steps.specs.Table.{is_given}
 use Rattle.steps.specs.Generate.{anchor_or}
 use Rattle.steps.specs.Finish.{seed_asked, seed_at_end}
 use Rattle.steps.specs.Build.{refused_built}
-
--- ---- a `match` on a rule, with several rules to an arm
-pub arm : (f : Rule → Bool) (b : Bool) (rule : Rule) → OneOf (keys_of f b rules) (tag_of the_type rule) → b ≡ f rule
-unfolding rules rule_number tags_are
-arm f b rule h = told (tag_of the_type) refl f b rule h
 
 -- ---- lengths
 pub none_test : (z : ℤ) → SFits w32 z → eqb (of_z w32 z) 0 ≡ is_none z

@@ -2,7 +2,7 @@
 -- and the merge at the front.
 -- Assumes nothing.
 use Rattle.std.specs.Prelude.{ℕ, zero, suc, ◌+◌, ◌-◌, Bool, true, false, ◌&&◌, List, [], ◌∷◌, ◌++◌, eqb, leb, length, get_or, take, drop, set}
-use Rattle.refusal.specs.Answer.{Answer, given, refused, need, then, COLLAPSED}
+use Rattle.refusal.specs.Answer.{Answer, given, need, then, COLLAPSED}
 use Rattle.date.specs.Civil.{fields_of, pick_n}
 use Rattle.date.specs.Date.{last_of_month, nth_weekday_of}
 use Rattle.calendar.specs.declared.Convention.{Convention}

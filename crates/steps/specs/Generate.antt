@@ -1,7 +1,7 @@
 -- Document 01, "Schedule steps": the dates generated, newest first. Each date has a mark, 1 if the period between it and the date put before it is
 -- regular; the first date put has no such period, and its mark says nothing.
 -- Assumes nothing.
-use Rattle.std.specs.Prelude.{ℕ, zero, suc, ◌+◌, ◌-◌, min, Bool, true, false, ◌&&◌, List, [], ◌∷◌, reverse, eqb, ltb, nat_abs, length, get_or, take, drop}
+use Rattle.std.specs.Prelude.{ℕ, zero, suc, ◌+◌, ◌-◌, Bool, true, false, ◌&&◌, List, [], ◌∷◌, reverse, eqb, ltb, nat_abs, length, get_or, take, drop}
 use Rattle.refusal.specs.Answer.{Answer, given, refused, need, then, BOOK, ROOM}
 use Rattle.date.specs.Civil.{pick_n}
 use Rattle.date.specs.Date.{SPAN_LAST, shift_months}

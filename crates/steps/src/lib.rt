@@ -1,4 +1,6 @@
 // A request for a schedule, and the steps that a build is made of.
+#![tactic(auto)]
+
 ghost use Rattle.std.specs.Prelude.{◌≡◌};
 ghost use Rattle.date.specs.Date.{dated};
 ghost use Rattle.steps.specs.Build.{refused_built};
@@ -22,7 +24,7 @@ pub mod flags;
 pub mod seeds;
 
 // The date generation rules, in document 01's order.
-#[derive(Drop)]
+#[derive(Clone, Copy)]
 pub enum Rule {
     Zero,
     Backward,
@@ -37,7 +39,7 @@ pub enum Rule {
 }
 
 // What a schedule is asked for. An anchor of day 0 is no anchor.
-#[derive(Drop)]
+#[derive(Clone, Copy)]
 pub struct Request {
     pub effective: Date,
     pub termination: Date,
@@ -55,7 +57,7 @@ pub struct Request {
 }
 
 // A tenor as a count of days or of months.
-#[derive(Drop)]
+#[derive(Clone, Copy)]
 pub struct Pace {
     pub monthly: bool,
     pub size: u32,
@@ -63,7 +65,7 @@ pub struct Pace {
 
 // The date that candidates are counted from: its day number, its month as 12 * year + month - 1, and the day of the month
 // that candidates keep.
-#[derive(Drop)]
+#[derive(Clone, Copy)]
 pub struct Seed {
     pub day: u32,
     pub month: u32,
@@ -71,7 +73,7 @@ pub struct Seed {
 }
 
 // What becomes of a date after generating.
-#[derive(Drop)]
+#[derive(Clone, Copy)]
 pub enum Move {
     Stay,
     ThirdWednesdays,
@@ -82,7 +84,7 @@ pub enum Move {
 }
 
 // A day and the date that it is known to adjust to; 0 where none is known.
-#[derive(Drop)]
+#[derive(Clone, Copy)]
 pub struct Sure {
     pub day: u32,
     pub paid: u32,
@@ -94,7 +96,7 @@ impl Sure {
 
 // What a build answers: in a refusal the number, rule Zero, tenor 0 days, and 0 in all else. `moved` is the greatest number of days
 // between the paid and the unadjusted date of an entry.
-#[derive(Drop)]
+#[derive(Clone, Copy)]
 pub struct Built {
     pub number: u8,
     pub count: u32,

@@ -8,7 +8,7 @@ use native.Mathlib.Omega.{arith}
 use lib.ListN.{length, set}
 use borrow.Author.Rules.{rules}
 use borrow.Author.Tests.{eq-eqb, ne_eqb}
-use Rattle.refusal.specs.Answer.{Answer, given, refused}
+use Rattle.refusal.specs.Answer.{given, refused}
 use Rattle.refusal.specs.Laws.Answers.{then_given, then_refused}
 use Rattle.date.specs.declared.Date.{Date}
 use Rattle.date.specs.declared.Dated.{Dated}
@@ -18,7 +18,7 @@ use Rattle.date.specs.Laws.Made.{given_day, refused_day}
 use Rattle.calendar.specs.declared.Convention.{Convention}
 use Rattle.calendar.specs.Open.{closed_ok}
 use Rattle.calendar.specs.Adjust.{adjusted}
-use Rattle.steps.specs.Generate.{Lists, newest, put, put_unless, put_new, put_anchor}
+use Rattle.steps.specs.Generate.{newest, put, put_unless, put_new, put_anchor}
 use Rattle.working.specs.declared.Filled.{Filled}
 use Rattle.working.specs.declared.Filled.TheVariants as Filled-is
 use Rattle.working.specs.declared.adds.Added.{Added}

@@ -10,7 +10,6 @@ use lib.ListN.{length, set}
 use lib.Dec.{eqb}
 use borrow.Author.Tests.{eq-eqb}
 use Rattle.refusal.specs.Answer.{Answer, given, refused, then, BOOK}
-use Rattle.date.specs.Civil.{pick_n}
 use Rattle.date.specs.declared.Date.{Date}
 use Rattle.date.specs.declared.Dated.{Dated}
 use Rattle.date.specs.declared.Dated.TheVariants as dated-is
@@ -19,7 +18,6 @@ use Rattle.date.specs.Laws.Made.{given_day}
 use Rattle.calendar.specs.declared.Convention.{Convention}
 use Rattle.calendar.specs.Open.{closed_ok}
 use Rattle.calendar.specs.Adjust.{adjusted}
-use Rattle.calendar.specs.Inner.Near.{OneMonth}
 use Rattle.steps.specs.declared.Sure.{Sure}
 use Rattle.steps.specs.Inner.Sure.{Surely}
 use Rattle.steps.specs.Candidates as steps

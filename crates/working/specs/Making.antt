@@ -1,7 +1,7 @@
 -- What generating needs of the input checks, and what it answers.
 -- Assumes nothing.
 use Rattle.std.specs.Prelude.{ℕ, ◌+◌, ◌-◌, ◌≤◌, ◌≡◌, refl, true, false, List, ◌++◌, reverse, nat_abs, length, take, drop}
-use Rattle.std.proofs.Common.{arith, sym, ap, ◌∙◌, length-drop, length-append, take_all, take_at, take-add, take-take, drop_at, drop-drop, length-take-le}
+use Rattle.std.proofs.Common.{arith, sym, ap, ◌∙◌, length-drop, length-append, take_all, take_at, take-add, take-take, drop_at, length-take-le}
 use Rattle.std.proofs.lemmas.List.{reverse-append, reverse-reverse, drop-append-le}
 use Rattle.refusal.specs.Answer.{Answer, given, refused}
 use Rattle.calendar.specs.Open.{closed_ok}

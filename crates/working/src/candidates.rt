@@ -14,7 +14,7 @@ use period::{Period, Unit, sign};
 use steps::{Pace, Seed};
 
 // What the loop knows: the newest date, its adjusted date where that is known, else 0, and what is near.
-#[derive(Drop)]
+#[derive(Clone, Copy)]
 pub(crate) struct Known {
     pub(crate) newest: u32,
     pub(crate) front: u32,

@@ -1,5 +1,6 @@
 // The working lists of a build, and the loop over the candidates that fills them. On lists and calendars that are not
 // as a build makes them, each function answers something; what it promises holds under the premises that it names.
+#![tactic(auto)]
 
 use calendar::Convention;
 use steps::{Pace, Seed, Sure};
@@ -14,14 +15,14 @@ pub mod walks;
 pub mod adds;
 
 // What dates are adjusted by, beside the closed dates: the convention, and the weekdays that are closed.
-#[derive(Drop)]
+#[derive(Clone, Copy)]
 pub struct Adjusting {
     pub convention: Convention,
     pub mask: u8,
 }
 
 // The candidates that a loop looks at: whole tenors back or on from a seed, up to an exit date.
-#[derive(Drop)]
+#[derive(Clone, Copy)]
 pub struct Course {
     pub back: bool,
     pub pace: Pace,
@@ -38,7 +39,7 @@ pub struct Begin {
 
 // How many dates there are, from which on each has its paid date beside it, and the newest date's adjusted date where it is known,
 // else 0.
-#[derive(Drop)]
+#[derive(Clone, Copy)]
 pub struct Tip {
     pub n: usize,
     pub start: usize,

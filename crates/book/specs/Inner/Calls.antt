@@ -2,7 +2,6 @@
 -- Assumes nothing.
 use Rattle.std.specs.Prelude.{ℕ, zero, suc, ◌≡◌, List, length}
 use Rattle.refusal.specs.Answer.{Answer, given, refused}
-use Rattle.steps.specs.declared.Built.{Built}
 use Rattle.steps.specs.Build.{dates_after, flags_after}
 use Rattle.steps.specs.Entries.{Entries, paid_of, unadjusted_after}
 use Rattle.book.specs.declared.calls.Single.{Single}

@@ -1,6 +1,6 @@
 -- What the functions that part a book promise each other.
 -- Assumes nothing.
-use Rattle.std.specs.Prelude.{ℕ, ◌+◌, ◌≤◌, ◌≡◌, Bool, true, false, List, leb, length, drop}
+use Rattle.std.specs.Prelude.{ℕ, ◌+◌, ◌≤◌, ◌≡◌, List, leb, length, drop}
 use Rattle.refusal.specs.Answer.{Answer, given, refused}
 use Rattle.request.specs.Format.{pick}
 use Rattle.book.specs.declared.framing.Framed.{Framed}

@@ -1,7 +1,7 @@
 -- What the functions under a book promise each other: a request's turn.
 -- Assumes nothing.
 use Rattle.std.specs.Prelude.{ℕ, ◌+◌, ◌-◌, ◌*◌, ◌/◌, ◌≤◌, ◌≡◌, List, [], ◌∷◌, length}
-use Rattle.refusal.specs.Answer.{Answer, given}
+use Rattle.refusal.specs.Answer.{given}
 use Rattle.steps.specs.Build.{over}
 use Rattle.book.specs.declared.calls.Single.{Single}
 use Rattle.book.specs.declared.calls.Single.TheVariants.{Built, Refused}

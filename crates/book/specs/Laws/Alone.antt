@@ -1,11 +1,11 @@
 -- A request's outcome is said by its bytes and the room then left: its dates, flags and unadjusted dates stand in its part, in every book alike,
 -- and the flag place of its last date keeps what it held.
 -- Assumes nothing.
-use Rattle.std.specs.Prelude.{ℕ, suc, ◌+◌, ◌-◌, ◌≤◌, ◌<◌, ◌≡◌, refl, List, ◌∷◌, ◌++◌, length, take, drop, get_or}
+use Rattle.std.specs.Prelude.{ℕ, suc, ◌+◌, ◌-◌, ◌<◌, ◌≡◌, List, ◌++◌, length, take, drop, get_or}
 use Rattle.std.proofs.Common.{ap, sym, ◌∙◌, arith, take_at, take-take, get_or-take, get_or-drop, get_or-append-add}
 use Rattle.refusal.specs.Answer.{Answer}
-use Rattle.steps.specs.Build.{over, dates_after, flags_after}
-use Rattle.steps.specs.Entries.{Entries, paid_of, unadjusted_after}
+use Rattle.steps.specs.Build.{over}
+use Rattle.steps.specs.Entries.{Entries}
 use Rattle.book.specs.Book.{count_of, Lists}
 use Rattle.book.specs.Laws.Turns.{dates_in, flags_in, unadjusted_in, dates_over, flags_over, unadjusted_over, Counted}
 use Rattle.book.specs.Laws.InPlace.{InPlace}

@@ -1,13 +1,12 @@
 -- A request takes no more places than are left, and never more than 4,096.
 -- Assumes nothing.
-use Rattle.std.specs.Prelude.{ℕ, ◌≤◌, min, ◌≡◌, refl, List, length}
+use Rattle.std.specs.Prelude.{ℕ, ◌≤◌, min, ◌≡◌, refl, List}
 use Rattle.std.proofs.Common.{arith}
-use Rattle.refusal.specs.Answer.{Answer, given, refused, then}
+use Rattle.refusal.specs.Answer.{Answer, given, refused}
 use Rattle.refusal.specs.Laws.Answers.{then_stepped}
 use Rattle.steps.specs.Entries.{Entries}
 use Rattle.steps.specs.Laws.Counts.{Flagged, build_flagged}
 use Rattle.steps.specs.Laws.Entries.{its_schedule}
-use Rattle.request.specs.Format.{decoded}
 use Rattle.book.specs.Book.{call_of, call_in, count_of}
 
 -- a schedule that is built has a date at least, no more than there is room for, and one flag fewer

@@ -1,7 +1,7 @@
 -- Demand 3 holds for each request of a book that it speaks of, with the room then left: its list and flags stand in its part, and it is refused
 -- exactly if that list exceeds the room, or 4,096.
 -- Assumes nothing.
-use Rattle.std.specs.Prelude.{ℕ, suc, ◌+◌, ◌-◌, ◌*◌, ◌/◌, ◌≤◌, ◌≡◌, drop}
+use Rattle.std.specs.Prelude.{ℕ, ◌+◌, ◌-◌, ◌*◌, ◌/◌, ◌≡◌, drop}
 use Rattle.std.proofs.Math.Path.{refl, ap, sym}
 use Rattle.std.proofs.Common.{◌∙◌, arith, take_at}
 use mathlib.Core.List.{List, [], ◌∷◌, ◌++◌}
@@ -10,7 +10,7 @@ use Rattle.std.proofs.Math.Seq.{take-take}
 use Rattle.refusal.specs.Answer.{Answer, given, refused, then, ROOM}
 use Rattle.refusal.specs.Laws.Answers.{then_given}
 use Rattle.steps.specs.declared.Request.{Request}
-use Rattle.steps.specs.Build.{Schedule, build_of, over, dates_after, flags_after}
+use Rattle.steps.specs.Build.{Schedule, over, dates_after, flags_after}
 use Rattle.steps.specs.Entries.{Entries, entries_of, paid_of, unadjusted_after}
 use Rattle.steps.specs.Laws.Entries.{NothingAdjusts, twice}
 use Rattle.outcomes.specs.Uneven.{refused_as_before}

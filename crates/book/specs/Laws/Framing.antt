@@ -1,8 +1,8 @@
 -- A book's requests, one taken off the front.
 -- Assumes nothing.
-use Rattle.std.specs.Prelude.{ℕ, zero, suc, ◌+◌, ◌≤◌, ◌<◌, ◌≡◌, refl, Bool, true, false, List, [], ◌∷◌, leb, length, take, drop}
-use Rattle.std.proofs.Common.{ap, sym, ◌∙◌, arith, leb-true}
-use Rattle.refusal.specs.Answer.{Answer, given, refused, need, then, BATCH}
+use Rattle.std.specs.Prelude.{ℕ, zero, suc, ◌+◌, ◌≤◌, ◌<◌, ◌≡◌, refl, List, [], ◌∷◌, length}
+use Rattle.std.proofs.Common.{arith, leb-true}
+use Rattle.refusal.specs.Answer.{given, BATCH}
 use Rattle.refusal.specs.Laws.Answers.{need_given, then_stepped, one_given, never_both}
 use Rattle.book.specs.Framing.{size_of, body_of, behind, unless_cut, or_none, requests_from}
 

@@ -1,20 +1,20 @@
 -- Each request's part of the lists, and its answer, are those of its single call on the parts as they were, whatever stands before it and
 -- behind it in the book.
 -- Assumes nothing.
-use Prim.Native.Nat.{ℕ, zero, suc, ◌+◌, ◌-◌, ◌*◌, ◌≤◌, ◌<◌, min}
-use Rattle.std.specs.Prelude.{◌≡◌, List, [], ◌∷◌, ◌++◌, take, drop, get_or}
+use Prim.Native.Nat.{ℕ, suc, ◌+◌, ◌-◌, ◌*◌}
+use Rattle.std.specs.Prelude.{◌≡◌, List, ◌∷◌, ◌++◌, take, drop}
 use Rattle.std.proofs.Math.Path.{refl}
-use Rattle.std.proofs.Common.{ap, sym, subst, ◌∙◌, length-append, take_at, get_or-take, get_or-drop, get_or-append-add}
+use Rattle.std.proofs.Common.{ap, ◌∙◌, length-append, take_at}
 use native.Mathlib.Omega.{arith}
 use Rattle.std.proofs.Math.ListN.{length}
-use Rattle.refusal.specs.Answer.{Answer, given, refused}
+use Rattle.refusal.specs.Answer.{Answer}
 use Rattle.steps.specs.Build.{over, dates_after, flags_after}
 use Rattle.steps.specs.Entries.{Entries, paid_of, unadjusted_after}
 use Rattle.book.specs.Book.{call_in, count_of, four_numbers, Lists, on_part, turned, on_call, booked}
 use Rattle.book.specs.Places.{takes}
 use Rattle.book.specs.Laws.Counts.{count_fits}
 use Rattle.book.specs.Laws.Within.{Within, part_stays}
-use Rattle.book.specs.Laws.Turns.{flags_in, flags_over, Counted, call_counted, four, Apart, Long, long_less, turn_apart, long_on, takes_fit, booked_apart}
+use Rattle.book.specs.Laws.Turns.{four, Apart, Long, long_less, turn_apart, long_on, takes_fit, booked_apart}
 use Rattle.book.specs.Laws.Joined.{joined}
 
 -- request i of outcome o, from its start on

@@ -1,14 +1,13 @@
 -- A book of one request is the single call, and the book `a ++ b` is the book `a` and then the book `b` in what is left.
 -- Assumes nothing.
-use Rattle.std.specs.Prelude.{ℕ, suc, ◌+◌, ◌-◌, ◌*◌, ◌≤◌, min, ◌≡◌, refl, List, [], ◌∷◌, ◌++◌, length}
+use Rattle.std.specs.Prelude.{ℕ, suc, ◌+◌, ◌-◌, ◌≤◌, min, ◌≡◌, refl, List, [], ◌∷◌, ◌++◌, length}
 use Rattle.std.proofs.Common.{ap, sym, ◌∙◌, arith}
 use Rattle.steps.specs.Build.{over, dates_after, flags_after}
 use Rattle.steps.specs.Entries.{paid_of, unadjusted_after}
 use Rattle.book.specs.Book.{call_in, count_of, four_numbers, Lists, lists, on_part, turned, on_call, booked}
 use Rattle.book.specs.Places.{then_takes, takes}
 use Rattle.book.specs.Laws.Counts.{count_fits}
-use Rattle.book.specs.Laws.Within.{Within}
-use Rattle.book.specs.Laws.Turns.{Apart, Long, long_less, turn_apart, long_on}
+use Rattle.book.specs.Laws.Turns.{Long, long_less, turn_apart, long_on}
 
 pub one_request : (r : List ℕ) (dates flags unadjusted answers : List ℕ) → booked (r ∷ []) 0 0 (lists dates flags unadjusted answers) ≡ lists (dates_after (paid_of (call_in r (length dates))) dates) (flags_after (paid_of (call_in r (length dates))) flags) (unadjusted_after (call_in r (length dates)) unadjusted) (over (four_numbers 0 (call_in r (length dates))) answers)
 unfolding booked on_call turned on_part

@@ -1,6 +1,6 @@
 -- Bytes are parted into requests in one way: they are a book of requests exactly if they are these requests, each led by its length.
 -- Assumes nothing.
-use Rattle.std.specs.Prelude.{ℕ, zero, suc, ◌+◌, ◌-◌, ◌*◌, ◌/◌, ◌%◌, ◌≤◌, ◌<◌, ◌≡◌, refl, ◌↔◌, Bool, true, false, leb, take, get_or}
+use Rattle.std.specs.Prelude.{ℕ, zero, suc, ◌+◌, ◌*◌, ◌/◌, ◌%◌, ◌≤◌, ◌<◌, ◌≡◌, refl, ◌↔◌, Bool, true, false, take}
 use Rattle.std.proofs.Math.Path.{ap, sym}
 use Rattle.std.proofs.Common.{subst, ◌∙◌, arith, div-add-mod', length-append, take-append-drop, drop-drop, take_at, drop_at, length-take-le, le-leb}
 use mathlib.Core.List.{List, [], ◌∷◌, ◌++◌}
@@ -8,7 +8,7 @@ use Rattle.std.proofs.Math.ListN.{length, drop}
 use Rattle.refusal.specs.Answer.{Answer, given, refused, need, then, BATCH}
 use Rattle.refusal.specs.Laws.Answers.{holds, one_given, never_both, then_given}
 use Rattle.book.specs.Framing.{MOST, size_of, body_of, behind, unless_cut, or_none, requests_from, requests_in, led, bytes_of, Sayable, no_requests, request, Bytes, no_bytes, byte}
-use Rattle.book.specs.Laws.Framing.{Took, took, none_left}
+use Rattle.book.specs.Laws.Framing.{took, none_left}
 
 -- ---- requests, each led by its length, are a book of them
 module _ (r rest : List ℕ) where

@@ -1,6 +1,6 @@
 -- A book's answer as one number, and that number handed on.
 -- Assumes nothing.
-use Rattle.std.specs.Prelude.{ℕ, ◌<◌, ◌≡◌, refl, List, ℤ, pos, neg_ℤ, length}
+use Rattle.std.specs.Prelude.{ℕ, ◌<◌, ◌≡◌, refl, List, ℤ, pos, neg_ℤ}
 use Rattle.std.proofs.Common.{ap, sym, ◌∙◌, to_z, of_z, rules}
 use Rattle.std.specs.Int.Signed.{mag}
 use Rattle.std.specs.Int.{w64}

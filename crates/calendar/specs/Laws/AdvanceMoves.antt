@@ -7,14 +7,13 @@ use Rattle.std.proofs.Common.{◌∙◌}
 use Rattle.std.proofs.Math.Bool.{true, false}
 use native.Mathlib.Omega.{arith}
 use Rattle.std.proofs.Math.IntN.{sub_ℕ}
-use Rattle.refusal.specs.Answer.{Answer, given, need, then, BOOK, CALENDAR, TENOR}
+use Rattle.refusal.specs.Answer.{Answer, given, BOOK, CALENDAR, TENOR}
 use Rattle.refusal.specs.Laws.Answers.{need_given, then_stepped, then_given, one_given}
 use Rattle.period.specs.Period.{is_negative}
 use Rattle.period.specs.declared.Unit.{Unit}
 use Rattle.period.specs.declared.Unit.TheVariants.{Days, Weeks, Months, Years}
-use Rattle.date.specs.Date.{SPAN_LAST, in_book, step, last_of_month, shift_days, shifted}
+use Rattle.date.specs.Date.{in_book, step, last_of_month, shift_days, shifted}
 use Rattle.calendar.specs.declared.Convention.{Convention}
-use Rattle.calendar.specs.declared.Convention.TheVariants.{Following, Preceding}
 use Rattle.calendar.specs.AnyCalendar.{in_span, towards, adjusted, last_open, open_steps, end_asked, landed, add_months, add_weeks, by_unit, advanced}
 use Rattle.calendar.specs.Open.{is_open_day, calendar_ok}
 use Rattle.calendar.specs.Calendar.{advanced_of, tenor_ok}

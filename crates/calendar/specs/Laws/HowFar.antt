@@ -1,26 +1,24 @@
 -- How far dates move (change request L8): dates and refusals are the former ones on every input, and what the days are, for any calendar.
 -- Assumes nothing.
-use Rattle.std.specs.Prelude.{ℕ, zero, suc, ◌+◌, ◌-◌, ◌≤◌, ◌≡◌, Bool, ◌&&◌, List, leb, ltb, ℤ, pos, negsuc, nat_abs}
+use Rattle.std.specs.Prelude.{ℕ, suc, ◌+◌, ◌-◌, ◌≤◌, ◌≡◌, Bool, List, leb, ltb, ℤ, pos, negsuc, nat_abs}
 use Rattle.std.proofs.Math.Path.{refl, sym}
 use Rattle.std.proofs.Common.{ap, ◌∙◌, le-leb, leb-true, le-ltb, ltb-true, ltb-false}
 use Rattle.std.proofs.Math.Bool.{true, false, not}
 use Rattle.std.proofs.lemmas.Bool.{false≢true}
 use native.Mathlib.Omega.{arith}
 use Rattle.std.proofs.Math.IntN.{sub_ℕ}
-use Rattle.refusal.specs.Answer.{Answer, given, refused, need, then, BOOK, CALENDAR, TENOR}
+use Rattle.refusal.specs.Answer.{Answer, given, refused, then, BOOK, CALENDAR}
 use Rattle.refusal.specs.Laws.Answers.{need_given, then_stepped, one_given, never_both, both, holds}
 use Rattle.period.specs.Period.{is_negative, is_positive}
-use Rattle.period.specs.declared.Unit.{Unit}
-use Rattle.period.specs.declared.Unit.TheVariants.{Days, Weeks, Months, Years}
-use Rattle.date.specs.Date.{SPAN_FIRST, SPAN_LAST, in_book, step, within_span, last_of_month, shift_days, shifted}
+use Rattle.date.specs.Date.{SPAN_FIRST, SPAN_LAST, in_book, step, last_of_month}
 use Rattle.calendar.specs.declared.Convention.{Convention}
 use Rattle.calendar.specs.declared.Convention.TheVariants.{Unadjusted, Following, ModifiedFollowing, Preceding, ModifiedPreceding}
-use Rattle.calendar.specs.AnyCalendar.{in_span, same_month, unless_left, towards, found, modified, by_convention, adjusted, last_open, open_steps, end_asked, landed, add_months, add_weeks, by_unit, advanced}
+use Rattle.calendar.specs.AnyCalendar.{in_span, same_month, unless_left, towards, found, modified, by_convention, adjusted, last_open}
 use Rattle.calendar.specs.Open.{is_open_day, calendar_ok}
-use Rattle.calendar.specs.Calendar.{adjust_of, last_open_of, advanced_of, tenor_ok}
-use Rattle.calendar.specs.Moves.{moved_from, date_of, land_base, months_base, advance_base, adjust_move_of, last_open_move_of, advance_move_of}
+use Rattle.calendar.specs.Calendar.{adjust_of, last_open_of}
+use Rattle.calendar.specs.Moves.{moved_from, date_of, adjust_move_of, last_open_move_of}
 use Rattle.calendar.specs.Inner.Reach.{UpTo}
-use Rattle.calendar.specs.Laws.Search.{First, adjusted_first, span_given}
+use Rattle.calendar.specs.Laws.Search.{First, adjusted_first}
 use Rattle.calendar.specs.Laws.Conventions.{within_given}
 use Rattle.calendar.specs.Laws.Stays.{adjust_again, open_stays}
 use Rattle.calendar.specs.Laws.Moved.{Gives, given_date, same_date}

@@ -11,7 +11,7 @@ use Rattle.calendar.specs.declared.Checked.TheVariants as checked-is
 use Rattle.calendar.specs.declared.Decided.{Decided}
 use Rattle.calendar.specs.declared.Decided.TheVariants as decided-is
 use Rattle.calendar.specs.Open.{closed_ok, calendar_ok}
-use Rattle.calendar.specs.Calendar.{Sound, sound, checked, decided, check_of}
+use Rattle.calendar.specs.Calendar.{sound, checked, decided, check_of}
 
 -- a sound calendar's list keeps its rule
 pub ok_closed : (mask : ℕ) (closed : List ℕ) → calendar_ok mask closed ≡ true → closed_ok closed ≡ true

@@ -1,6 +1,6 @@
 -- What the list of a forward trade shows: the coming date that one division finds, and the flag of the period that it ends.
 -- Assumes nothing.
-use Rattle.std.specs.Prelude.{ℕ, zero, suc, ◌+◌, ◌-◌, ◌/◌, ◌≤◌, ◌<◌, ◌≡◌, refl, ◌⊎◌, true, List, [], ◌∷◌, ◌++◌, length, get_or, replicate}
+use Rattle.std.specs.Prelude.{ℕ, zero, suc, ◌-◌, ◌/◌, ◌≤◌, ◌<◌, ◌≡◌, refl, ◌⊎◌, true, List, [], ◌∷◌, ◌++◌, length, get_or, replicate}
 use Rattle.std.proofs.Math.Path.{ap}
 use Rattle.std.proofs.Common.{sym, ◌∙◌, inl, inr, eq-or-lt_of_le, arith}
 use Rattle.std.proofs.Math.Logic.{⊎_elim}
@@ -200,3 +200,5 @@ shown_forward q closed dates flags p c x b =
           (λ h. coming_none q closed dates flags p c o.0 o.1 m.0 m.1 r.0 r.2 x h)
           (λ h i. coming_next q closed dates flags p c o.0 o.1 m.0 m.1 r.0 r.2 x h i _ (most_on_by_lem q.effective.day x c.effective_in_book h b q.tenor.unit)),
     )
+
+-- ---- from termination back: Backwards

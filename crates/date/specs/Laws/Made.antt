@@ -1,6 +1,6 @@
 -- Laws of answers that are days, and of `make_of`: what each test refuses, and what an answer that is a day tells.
 -- Assumes nothing.
-use Rattle.std.specs.Prelude.{ℕ, suc, ◌+◌, ◌-◌, ◌≤◌, ◌<◌, ◌≡◌, refl, true, leb}
+use Rattle.std.specs.Prelude.{ℕ, suc, ◌+◌, ◌-◌, ◌≤◌, ◌<◌, ◌≡◌, refl, leb}
 use Rattle.std.proofs.Common.{ap, ◌∙◌, sym, arith}
 use borrow.Author.Tests.{le-leb, lt-leb, leb-true}
 use Rattle.refusal.specs.Answer.{Answer, given, refused, need, BOOK}

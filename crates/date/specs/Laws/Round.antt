@@ -1,6 +1,6 @@
 -- A day number and its year, month and day determine each other.
 -- Assumes nothing.
-use Rattle.std.specs.Prelude.{ℕ, ◌+◌, ◌-◌, ◌≤◌, ◌<◌, ◌≡◌, get_or, length}
+use Rattle.std.specs.Prelude.{ℕ, ◌+◌, ◌-◌, ◌≤◌, ◌<◌, ◌≡◌, get_or}
 use Rattle.std.proofs.Common.{ap, ◌∙◌, sym, arith, add-sub_cancel}
 use Rattle.date.specs.declared.Fields.{Fields}
 use Rattle.date.specs.declared.civil.Place.{Place}

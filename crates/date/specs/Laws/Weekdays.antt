@@ -6,7 +6,7 @@ use Rattle.std.proofs.Math.Path.{refl, ap}
 use Rattle.std.proofs.Common.{◌∙◌, sym, leb-true, eqb-true}
 use native.Mathlib.Omega.{arith}
 use Rattle.std.proofs.lemmas.Bool.{eqb-false}
-use Rattle.refusal.specs.Answer.{given, need, then, BOOK}
+use Rattle.refusal.specs.Answer.{given, BOOK}
 use Rattle.refusal.specs.Laws.Answers.{need_given, then_stepped, then_given}
 use Rattle.date.specs.Civil.{pick_n, weekday_of, days_until, day_number, month_length}
 use Rattle.date.specs.Date.{SPAN_FIRST, SPAN_LAST, in_book, make_of, within_span, next_weekday_of, nth_weekday_of}

@@ -12,10 +12,10 @@ use Rattle.refusal.specs.Answer.{Answer, need, BOOK, CALENDAR}
 use Rattle.refusal.specs.Laws.Answers.{both}
 use Rattle.date.specs.Date.{SPAN_FIRST, SPAN_LAST, in_book}
 use Rattle.calendar.specs.declared.Convention.{Convention}
-use Rattle.calendar.specs.Open.{member, is_open_day, ascending, closed_ok, calendar_ok}
+use Rattle.calendar.specs.Open.{member, ascending, closed_ok, calendar_ok}
 use Rattle.calendar.specs.Calendar.{adjust_of}
 use Rattle.calendar.specs.AnyCalendar.{adjusted}
-use Rattle.desk.specs.Desk.{year_of, entries_in, opens_over, calendars_ok, adjust_over_of, has_none, left_to, before, put, put_if, combined}
+use Rattle.desk.specs.Desk.{year_of, entries_in, opens_over, calendars_ok, adjust_over_of, left_to, before, put, put_if, combined}
 use Rattle.desk.specs.Laws.Ascending.{asc, cons, empty, early}
 use Rattle.desk.specs.Laws.Entries.{own_year, none_member}
 use Rattle.desk.specs.Laws.Over.{combined_member, adjusted_combined}

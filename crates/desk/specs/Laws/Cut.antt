@@ -2,11 +2,11 @@
 -- Assumes nothing.
 use Rattle.std.specs.Prelude.{ℕ, zero, suc, ◌+◌, ◌<◌, ◌≡◌, refl, Bool, true, false}
 use Rattle.std.proofs.Common.{sym, ap, ◌∙◌, arith}
-use Rattle.refusal.specs.Answer.{Answer, given, refused, CLOSED}
+use Rattle.refusal.specs.Answer.{given, refused}
 use Rattle.refusal.specs.Laws.Answers.{never_both}
 use Rattle.date.specs.Date.{step}
 use Rattle.calendar.specs.AnyCalendar.{first_open}
-use Rattle.calendar.specs.Laws.Search.{First, turn_open, turn_shut, turn_none, found_first, first_is_found}
+use Rattle.calendar.specs.Laws.Search.{turn_open, turn_shut, turn_none, found_first, first_is_found}
 
 none : (back : Bool) (day : ℕ) → step back day 0 ≡ day
 unfolding step

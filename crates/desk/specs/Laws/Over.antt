@@ -1,7 +1,7 @@
 -- What the adjustment over two lists comes to: the one over the combined list, over the house's where the desk has none, over the desk's where
 -- it has an entry in each year that is tried.
 -- Assumes nothing.
-use Rattle.std.specs.Prelude.{ℕ, zero, suc, ◌%◌, ◌<◌, ◌≡◌, Bool, not, ◌&&◌, ◌||◌, leb, ltb}
+use Rattle.std.specs.Prelude.{ℕ, ◌%◌, ◌<◌, ◌≡◌, Bool, not, ◌&&◌, ◌||◌, ltb}
 use Rattle.std.proofs.Math.Path.{refl, ap}
 use Rattle.std.proofs.Common.{sym, ◌∙◌, eqb-true}
 use Rattle.std.proofs.Math.Bool.{true, false}
@@ -15,7 +15,7 @@ use Rattle.calendar.specs.declared.Convention.{Convention}
 use Rattle.calendar.specs.declared.Convention.TheVariants.{Unadjusted, Following, ModifiedFollowing, Preceding, ModifiedPreceding}
 use Rattle.calendar.specs.Open.{weekly_closed, member, is_open_day, ascending, closed_ok, calendar_ok}
 use Rattle.calendar.specs.Calendar.{adjust_of}
-use Rattle.calendar.specs.AnyCalendar.{in_span, same_month, unless_left, first_open, found, modified, by_convention, adjusted}
+use Rattle.calendar.specs.AnyCalendar.{in_span, same_month, unless_left, found, modified, by_convention, adjusted}
 use Rattle.desk.specs.Desk.{year_of, entries_in, or_else, run_of, opens_over, calendars_ok, adjust_over_of, left_to, before, put, put_if, combined, has_none}
 use Rattle.desk.specs.Laws.Entries.{run_member, own_year}
 use Rattle.desk.specs.Laws.Cut.{alike}

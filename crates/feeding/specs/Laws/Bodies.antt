@@ -1,22 +1,22 @@
 -- What a reader stores of the bytes is what the format says: `bodies`.
 -- Assumes nothing.
-use Rattle.std.specs.Prelude.{ℕ, zero, suc, ◌+◌, ◌*◌, ◌-◌, ◌≤◌, ◌<◌, ◌≡◌, refl, Bool, eqb, leb, ltb, get_or, set}
+use Rattle.std.specs.Prelude.{ℕ, zero, suc, ◌+◌, ◌-◌, ◌≤◌, ◌<◌, ◌≡◌, refl, Bool, eqb, leb, ltb, get_or, set}
 use Rattle.std.proofs.Common.{sym, ◌∙◌, zero-add, arith, length-drop, length-append, take-append-drop, drop_of_length-le, take_all, length-take-le}
 use Rattle.std.proofs.Math.Path.{ap}
 use Rattle.std.proofs.Math.Bool.{true, false}
 use mathlib.Core.List.{List, [], ◌∷◌, ◌++◌, append-nil}
-use borrow.Author.Tests.{le-leb, lt-leb, leb-true, leb-false, eqb-true, eqb-false, eq-eqb, ne_eqb}
+use borrow.Author.Tests.{le-leb, leb-true, leb-false, eq-eqb}
 use Rattle.std.proofs.Math.ListN.{length, take, drop, length-take}
 use Rattle.std.proofs.lemmas.List.Edits.{sets}
-use Rattle.std.proofs.Math.Seq.{sets-eq, length-sets}
+use Rattle.std.proofs.Math.Seq.{sets-eq}
 use Rattle.steps.specs.Build as build
 use Rattle.request.specs.Format.{pick, two, size_in}
 use Rattle.request.specs.Laws.Picks.{taken, left}
 use Rattle.feeding.specs.declared.State.{State}
 use Rattle.feeding.specs.Bodies.{on_tag_in, on_header, bodies_from, bodies}
-use Rattle.feeding.specs.Feed.{at, to, fresh, settled, size_ok, eat_of, keep_of, keeps_of, eaten, laid}
+use Rattle.feeding.specs.Feed.{at, to, fresh, settled, size_ok, eaten, laid}
 use Rattle.feeding.specs.Laws.Cut.{eaten_cut, laid_cut}
-use Rattle.feeding.specs.Laws.Eat.{fed_eaten, not_kept, past_laid, over_laid}
+use Rattle.feeding.specs.Laws.Eat.{fed_eaten, past_laid, over_laid}
 use Rattle.feeding.specs.Laws.Field.{begins, behind, field_eaten, field_laid, one_laid, two_laid}
 
 -- ---- lists

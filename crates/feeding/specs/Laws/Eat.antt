@@ -1,12 +1,12 @@
 -- What a byte never changes: all that it may do is one of a few ways.
 -- Assumes nothing.
-use Rattle.std.specs.Prelude.{ℕ, zero, suc, ◌+◌, ◌*◌, ◌-◌, ◌≤◌, ◌<◌, ◌≡◌, refl, Bool, List, [], ◌∷◌, eqb, ltb, length}
-use Rattle.std.proofs.Common.{sym, ap, ◌∙◌, arith, lt-ltb, le-ltb}
+use Rattle.std.specs.Prelude.{ℕ, ◌+◌, ◌≤◌, ◌<◌, ◌≡◌, refl, Bool, List, [], ◌∷◌, eqb, ltb, length}
+use Rattle.std.proofs.Common.{ap, ◌∙◌, arith, lt-ltb, le-ltb}
 use Rattle.std.proofs.Math.Bool.{true, false}
 use Rattle.request.specs.Format.{pick}
 use Rattle.request.specs.Laws.Picks.{taken, left}
 use Rattle.feeding.specs.declared.State.{State}
-use Rattle.feeding.specs.Feed.{at, to, counting, settled, on_tag, on_high, on_size, on_low, starts_ok, on_body, spoilt, keeps_of, eat_of, keep_of, eaten, laid}
+use Rattle.feeding.specs.Feed.{to, counting, settled, on_tag, on_high, on_size, on_low, on_body, spoilt, keeps_of, eat_of, keep_of, eaten, laid}
 
 -- a property that all ways have
 module _ (P : State → Type 0) where

@@ -1,16 +1,16 @@
 -- One field, taken in: its header, and as much of its body as is there.
 -- Assumes nothing.
-use Rattle.std.specs.Prelude.{ℕ, zero, suc, ◌+◌, ◌*◌, ◌-◌, ◌≤◌, ◌<◌, ◌≡◌, Bool, true, false, eqb, ltb, set}
+use Rattle.std.specs.Prelude.{ℕ, ◌+◌, ◌-◌, ◌≤◌, ◌<◌, ◌≡◌, Bool, true, false, eqb, ltb, set}
 use Rattle.std.proofs.Math.Path.{refl, ap}
-use Rattle.std.proofs.Common.{sym, ◌∙◌, add-one, lt-ltb, eq-eqb, ne_eqb}
-use mathlib.Core.List.{List, [], ◌∷◌, ◌++◌}
+use Rattle.std.proofs.Common.{sym, ◌∙◌, add-one, lt-ltb, ne_eqb}
+use mathlib.Core.List.{List, [], ◌∷◌}
 use native.Mathlib.Omega.{arith}
 use Rattle.std.proofs.Math.ListN.{length}
 use Rattle.std.proofs.Math.Seq.{sets}
 use Rattle.request.specs.Format.{pick, two}
 use Rattle.request.specs.Laws.Picks.{taken, left}
 use Rattle.feeding.specs.declared.State.{State}
-use Rattle.feeding.specs.Feed.{at, to, size_ok, first_ok, settled, on_tag, on_high, on_size, on_low, starts_ok, on_body, keeps_of, eat_of, keep_of, eaten, laid}
+use Rattle.feeding.specs.Feed.{at, size_ok, first_ok, settled, on_tag, on_high, on_size, starts_ok, on_body, keeps_of, eat_of, keep_of, eaten, laid}
 use Rattle.feeding.specs.Laws.Run.{goes_on, body_eaten, body_laid}
 use Rattle.feeding.specs.Laws.Eat.{not_kept}
 

@@ -1,23 +1,23 @@
 -- The finish answers what document 01 says of the bytes: `found` is `decoded`.
 -- Assumes nothing.
-use Rattle.std.specs.Prelude.{ℕ, zero, suc, ◌+◌, ◌*◌, ◌-◌, ◌/◌, ◌≤◌, ◌<◌, ◌≡◌, Bool, ◌&&◌, leb, length, get_or, take, drop}
+use Rattle.std.specs.Prelude.{ℕ, zero, suc, ◌+◌, ◌-◌, ◌/◌, ◌≤◌, ◌<◌, ◌≡◌, Bool, ◌&&◌, leb, length, take, drop}
 use Rattle.std.proofs.Math.Path.{refl, sym, ap}
-use Rattle.std.proofs.Common.{◌∙◌, arith, length-take, length-drop, take-append-drop, take_all}
+use Rattle.std.proofs.Common.{◌∙◌, arith, length-take, length-drop, take-append-drop}
 use Rattle.std.proofs.Math.Bool.{true, false}
 use Rattle.std.proofs.lemmas.Bool.{false≢true}
-use mathlib.Core.List.{List, [], ◌∷◌, ◌++◌}
-use borrow.Author.Tests.{le-leb, lt-leb, leb-true, leb-false, eqb-true, eqb-false, eq-eqb, ne_eqb, ltb-true}
+use mathlib.Core.List.{List, [], ◌∷◌}
+use borrow.Author.Tests.{le-leb, lt-leb, leb-true, leb-false, eqb-true, ne_eqb, ltb-true}
 use Rattle.std.proofs.Math.Dec.{eqb, ltb}
 use Rattle.std.proofs.Math.ListN.{set}
 use Rattle.std.proofs.lemmas.List.Edits.{sets}
 use Rattle.std.proofs.Math.Seq.{set_out}
 use Rattle.refusal.specs.Answer.{Answer, given, refused, need, then}
 use Rattle.refusal.specs.Laws.Answers.{fails, holds}
-use Rattle.request.specs.Format.{pick, two, body_ok, Field, Cut, cut_at, cut_of, last_tag, is_end, on_field, on_cut, fields_from, body_or, Asked, asked_from, asked_in, decoded}
+use Rattle.request.specs.Format.{pick, two, body_ok, Field, Cut, cut_at, cut_of, is_end, on_field, on_cut, fields_from, Asked, asked_from, asked_in, decoded}
 use Rattle.request.specs.Laws.Picks.{taken, left}
 use Rattle.request.specs.Stored.{stored}
 use Rattle.feeding.specs.declared.State.{State}
-use Rattle.feeding.specs.Feed.{at, to, fresh, size_ok, settled, eat_of, eaten, laid, found}
+use Rattle.feeding.specs.Feed.{at, fresh, size_ok, eat_of, eaten, laid, found}
 use Rattle.feeding.specs.Laws.Cut.{eaten_cut}
 use Rattle.feeding.specs.Laws.Run.{goes_on}
 use Rattle.feeding.specs.Laws.Eat.{settled_has, fed_eaten, unsound, past_eaten, past_laid, over_eaten}

@@ -1,10 +1,10 @@
 -- Document 02, L1, the rule: any cutting of the bytes, empty parts too, ends in the same request or the same refusal as the whole, and
 -- the buffer holds the bodies.
 -- Assumes nothing.
-use Rattle.std.specs.Prelude.{ℕ, ◌+◌, ◌-◌, ◌≤◌, ◌<◌, ◌≡◌, take, drop}
+use Rattle.std.specs.Prelude.{ℕ, ◌≤◌, ◌<◌, ◌≡◌, take, drop}
 use Rattle.std.proofs.Math.Path.{refl}
 use Rattle.std.proofs.Common.{sym, ap, ◌∙◌, arith, le-ltb, lt-ltb, eq-eqb, ne_eqb}
-use mathlib.Core.List.{List, [], ◌∷◌, ◌++◌}
+use mathlib.Core.List.{List, [], ◌++◌}
 use Rattle.std.proofs.Math.ListN.{length, length-append, length-drop, length-take}
 use Rattle.steps.specs.Build as build
 use Rattle.request.specs.Format.{decoded}

@@ -1,10 +1,10 @@
 -- Bytes of a body behind its first, taken one by one, are a run.
 -- Assumes nothing.
-use Prim.Native.Nat.{ℕ, zero, suc, ◌+◌, ◌-◌, ◌≤◌, ◌<◌}
-use Rattle.std.specs.Prelude.{◌≡◌, refl, Bool, true, false, eqb, ltb, take, drop, set}
-use Rattle.std.proofs.Common.{sym, ◌∙◌, add-one, lt-ltb, eq-eqb, ne_eqb}
+use Prim.Native.Nat.{ℕ, suc, ◌+◌, ◌-◌, ◌≤◌, ◌<◌}
+use Rattle.std.specs.Prelude.{◌≡◌, refl, true, set}
+use Rattle.std.proofs.Common.{sym, ◌∙◌, add-one, lt-ltb, ne_eqb}
 use Rattle.std.proofs.Math.Path.{ap}
-use mathlib.Core.List.{List, [], ◌∷◌, ◌++◌}
+use mathlib.Core.List.{List, [], ◌∷◌}
 use native.Mathlib.Omega.{arith}
 use Rattle.std.proofs.Math.ListN.{length}
 use Rattle.std.proofs.Math.Seq.{sets, sets-eq}

@@ -1,31 +1,28 @@
 -- The reader behind any bytes answers what document 01 says of them: `found` is `decoded`.
 -- Assumes nothing.
-use Prim.Native.Nat.{ℕ, zero, suc, ◌+◌, ◌*◌, ◌-◌, ◌/◌, ◌%◌, ◌≤◌, ◌<◌}
+use Prim.Native.Nat.{ℕ, ◌+◌, ◌*◌, ◌/◌, ◌%◌, ◌≤◌, ◌<◌}
 use Rattle.std.specs.Prelude.{◌≡◌, Bool, ◌&&◌, leb, ltb, take, drop, set, replicate}
 use Rattle.std.proofs.Math.Path.{refl, sym, ap}
-use Rattle.std.proofs.Common.{◌∙◌, arith, length-take, length-drop, length-append, take-append-drop, take_all, length-take-le, get_or-set_same, get_or-set_other, take_at, drop_at}
+use Rattle.std.proofs.Common.{◌∙◌, arith, length-drop, length-append, take-append-drop, length-take-le, get_or-set_same, get_or-set_other, take_at, drop_at}
 use Rattle.std.proofs.Math.Bool.{true, false}
 use Rattle.std.proofs.lemmas.Bool.{false≢true}
 use mathlib.Core.List.{List, [], ◌∷◌, ◌++◌}
-use borrow.Author.Tests.{le-leb, lt-leb, leb-true, leb-false, eqb-true, eqb-false, eq-eqb, ne_eqb, lt-ltb, le-ltb, ltb-true, ltb-false}
+use borrow.Author.Tests.{le-leb, lt-leb, leb-true, eqb-true, eqb-false, eq-eqb, ne_eqb, lt-ltb, le-ltb, ltb-true}
 use Rattle.std.proofs.Math.Dec.{eqb}
 use Rattle.std.proofs.Math.ListN.{length, get_or, length-set}
 use Rattle.std.proofs.lemmas.List.{get_or-replicate, drop-append-le, take-append-le}
 use Rattle.std.proofs.lemmas.List.Edits.{sets, sets-eq}
-use Rattle.std.proofs.Math.Seq.{length-sets, set_out}
-use Rattle.refusal.specs.Answer.{Answer, given, refused, need, then}
-use Rattle.refusal.specs.Laws.Answers.{fails, holds, then_given, then_refused}
+use Rattle.std.proofs.Math.Seq.{length-sets}
+use Rattle.refusal.specs.Answer.{refused}
+use Rattle.refusal.specs.Laws.Answers.{fails, holds}
 use Rattle.calendar.specs.Adjust.{conventions}
 use Rattle.steps.specs.Rules.{rules}
-use Rattle.request.specs.Format.{pick, two, is_date, is_tenor, is_below, are_dates, body_ok, Field, Cut, cut_at, cut_of, last_tag, is_end, on_field, on_cut, fields_from, body_or, Asked, asked_from, asked_in, decoded}
+use Rattle.request.specs.Format.{pick, is_date, is_tenor, is_below, are_dates, body_ok, Field, last_tag, body_or, asked_from}
 use Rattle.request.specs.Laws.Picks.{taken, left}
 use Rattle.request.specs.Stored.{body_in, widths, width_of, stored}
 use Rattle.feeding.specs.declared.State.{State}
-use Rattle.feeding.specs.Feed.{at, fresh, size_ok, first_ok, settled, eat_of, eaten, laid, is_whole, found}
-use Rattle.feeding.specs.Laws.Run.{goes_on}
-use Rattle.feeding.specs.Laws.Eat.{fed_eaten, unsound, past_eaten, past_laid, over_eaten}
-use Rattle.feeding.specs.Laws.Field.{phase_behind, begins, behind, eat_1, eat_2, field_eaten}
-use Rattle.feeding.specs.Laws.Bodies.{drop_head, size_is, field_cut, field_cut_laid, closing, behind_last, behind_next}
+use Rattle.feeding.specs.Feed.{size_ok, first_ok, is_whole, found}
+use Rattle.feeding.specs.Laws.Field.{begins}
 
 -- ---- a reader that is not sound, or does not stand behind FF, refuses
 pub unsound_refuses : (s : State) (l : List ℕ) (room : ℕ) → s.sound ≡ 0 → found s l room ≡ refused 17

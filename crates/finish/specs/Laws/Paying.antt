@@ -1,21 +1,21 @@
 -- Paid dates beside the generated ones: filled in by parts, they are what 01's adjustments make of the dates.
 -- Assumes nothing.
-use Prim.Native.Nat.{ℕ, zero, suc, ◌+◌, ◌-◌, ◌≤◌, ◌<◌}
-use Rattle.std.specs.Prelude.{◌≡◌, Bool, true, get_or}
+use Prim.Native.Nat.{ℕ, suc, ◌+◌, ◌-◌, ◌≤◌, ◌<◌}
+use Rattle.std.specs.Prelude.{◌≡◌, Bool, get_or}
 use Rattle.std.proofs.Math.Path.{refl, sym, ap, fun_ext}
-use Rattle.std.proofs.Common.{◌∙◌, length-take, length-drop, drop-drop, take-add, length-take-le, take_all}
+use Rattle.std.proofs.Common.{◌∙◌, length-drop, drop-drop, take-add, length-take-le}
 use Rattle.std.proofs.Math.Bool.{false}
-use mathlib.Core.List.{List, [], ◌∷◌, ◌++◌, append_assoc, append-nil}
+use mathlib.Core.List.{List, [], ◌∷◌, ◌++◌, append_assoc}
 use native.Mathlib.Omega.{arith}
 use Rattle.std.proofs.Math.Dec.{eqb}
 use borrow.Author.Tests.{ne_eqb}
 use Rattle.std.proofs.Math.ListN.{length, set, take, drop, length-append, take-append-drop}
 use Rattle.std.proofs.Math.Seq.{drop-cons, take-append_seam, drop-append_seam, drop-append-add, take_at, drop_at}
-use Rattle.std.proofs.lemmas.List.{set_split, drop-append-le}
+use Rattle.std.proofs.lemmas.List.{set_split}
 use Rattle.refusal.specs.Answer.{Answer, given, refused, then}
 use Rattle.steps.specs.declared.Request.{Request}
-use Rattle.steps.specs.Finish.{each, moved, on_first, on_last, on_middle, first_move, last_move, middle_move, seed_at_end, adjustments}
-use Rattle.steps.specs.Laws.Parts.{on_first_lem, on_last_lem, on_middle_lem, on_no_middle, each_moved, as_many}
+use Rattle.steps.specs.Finish.{each, moved, on_last, on_middle, first_move, last_move, middle_move, seed_at_end, adjustments}
+use Rattle.steps.specs.Laws.Parts.{on_first_lem, on_last_lem, on_middle_lem, on_no_middle, as_many}
 use Rattle.finish.specs.Paying.{pay_between, PaidAlready, pay_last_of, pay_last, pay_middle, paying}
 
 module _ (f : ℕ → Answer ℕ) where

@@ -1,6 +1,6 @@
 -- The float of a fraction: the exact fraction of the two parts, rounded once; finite, not negative, and never -0.
 -- Assumes nothing.
-use Rattle.std.specs.Prelude.{ℕ, zero, suc, ◌*◌, ◌^◌, ◌≤◌, ◌<◌, ◌≡◌, refl, Bool, true, false, not, ◌&&◌, T, leb, pos, Float}
+use Rattle.std.specs.Prelude.{ℕ, zero, suc, ◌*◌, ◌^◌, ◌≤◌, ◌<◌, ◌≡◌, refl, true, false, ◌&&◌, T, leb, pos, Float}
 use Rattle.std.proofs.Common.{sym, ap, ◌∙◌, subst, true≢false, arith, mul-pos, mul-one, mul_comm, mul_assoc, mul_left_comm, ltb→lt, ne_eqb, leb-true}
 use Rattle.std.specs.Float.{nan, inf, fin, binary64}
 use Rattle.std.specs.Float.Ieee.{up, down, round, units, odd, size, span, climb, of_int, div, neg, fits, to_bits}

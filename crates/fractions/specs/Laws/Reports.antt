@@ -1,12 +1,11 @@
 -- The definition of the report has its meaning, no other answer has it, and what the sums are of the first and the last date.
 -- Assumes nothing.
-use Rattle.std.specs.Prelude.{ℕ, zero, suc, ◌+◌, ◌-◌, ◌≤◌, ◌<◌, ◌≡◌, refl, Bool, true, false, ◌&&◌, List, [], ◌∷◌, leb, length, get_or}
+use Rattle.std.specs.Prelude.{ℕ, zero, suc, ◌-◌, ◌≤◌, ◌<◌, ◌≡◌, refl, Bool, true, false, ◌&&◌, List, [], ◌∷◌, leb, length, get_or}
 use Rattle.std.proofs.Common.{sym, ap, ◌∙◌, arith, leb-true, leb-false, le-leb}
 use Rattle.std.proofs.lemmas.Bool.{false≢true}
 use Rattle.refusal.specs.Answer.{Answer, given, need, BOOK, REVERSED}
 use Rattle.refusal.specs.Laws.Answers.{both, need_given, one_given, holds}
 use Rattle.fractions.specs.declared.Basis.{Basis}
-use Rattle.fractions.specs.declared.Basis.TheVariants.{Thirty360}
 use Rattle.fractions.specs.declared.reports.Sums.{Sums}
 use Rattle.fractions.specs.Fractions.{in_span, place, count, parts_between, parts_of}
 use Rattle.fractions.specs.Reports.{all_in, rises_from, rises, sums_of, report_of}

@@ -1,6 +1,6 @@
 -- The span by its test and by its ends.
 -- Assumes nothing.
-use Rattle.std.specs.Prelude.{ℕ, ◌<◌, ◌≡◌, true, false, ◌&&◌, leb}
+use Rattle.std.specs.Prelude.{ℕ, ◌<◌, ◌≡◌, true, false, leb}
 use Rattle.std.proofs.Math.Path.{refl}
 use Rattle.std.proofs.Math.Bool.{and-false}
 use borrow.Author.Tests.{leb-true, le-leb, lt-leb}

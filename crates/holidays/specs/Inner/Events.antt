@@ -8,7 +8,7 @@ use Rattle.holidays.specs.declared.events.Closed.TheVariants as closed_is
 use Rattle.holidays.specs.Words.{Bytes, pick}
 use Rattle.holidays.specs.Nesting.{Parts}
 use Rattle.holidays.specs.Dated.{by_value}
-use Rattle.holidays.specs.Events.{Said, nothing, day, Draft, blank}
+use Rattle.holidays.specs.Events.{Said, nothing, day, blank}
 use Rattle.holidays.specs.Laws.Exactly.{Here, Turn, goes, stops, date_turn, end_turn}
 use Rattle.holidays.specs.Inner.Along.{ahead}
 use Rattle.holidays.specs.Inner.Digits.{kind_of_number}

@@ -1,6 +1,6 @@
 -- What the code's stack of open parts stands for.
 -- Assumes nothing.
-use Rattle.std.specs.Prelude.{ℕ, zero, suc, ◌+◌, ◌≡◌, Bool, true, false, not, List, [], ◌∷◌, eqb, length, get_or, set}
+use Rattle.std.specs.Prelude.{ℕ, zero, suc, ◌+◌, ◌≡◌, Bool, true, false, not, List, [], ◌∷◌, eqb, get_or, set}
 use Rattle.holidays.specs.declared.parts.Opened.{Opened}
 use Rattle.holidays.specs.declared.parts.Opened.TheVariants as opened-is
 use Rattle.holidays.specs.Words.{Bytes, pick, uppers, spells}

@@ -1,6 +1,6 @@
 -- What the code keeps between two lines, and what one line promises.
 -- Assumes nothing.
-use Rattle.std.specs.Prelude.{ℕ, ◌+◌, ◌*◌, ◌≤◌, ◌<◌, ◌≡◌, Bool, true, false, List, length, get_or}
+use Rattle.std.specs.Prelude.{ℕ, ◌*◌, ◌≤◌, ◌<◌, ◌≡◌, Bool, List, length, get_or}
 use Rattle.refusal.specs.Answer.{ICAL}
 use Rattle.holidays.specs.declared.turns.State.{State}
 use Rattle.holidays.specs.declared.turns.Turn as code

@@ -1,17 +1,17 @@
 -- Laws of the map of days: which days it holds, one more of them, and words passed over.
 -- Assumes nothing.
-use Rattle.std.specs.Prelude.{ℕ, zero, suc, ◌+◌, ◌-◌, ◌*◌, ◌/◌, ◌%◌, ◌^◌, ◌≤◌, ◌<◌, ◌≡◌, Bool, true, false, ◌⊎◌, List, [], ◌∷◌, ◌++◌, eqb, ltb, length, get_or, set}
+use Rattle.std.specs.Prelude.{ℕ, zero, suc, ◌+◌, ◌-◌, ◌/◌, ◌%◌, ◌^◌, ◌≤◌, ◌<◌, ◌≡◌, Bool, true, false, List, [], ◌∷◌, eqb, ltb, length, get_or, set}
 use Rattle.std.proofs.Math.Path.{refl, ap}
 use Rattle.std.proofs.Common.{sym, ◌∙◌, subst, inl, inr, ⊎_elim, add-one, add-zero, get_or-set_same, get_or-set_other, eqb-true, ltb-true, ltb-false}
 use Rattle.std.proofs.lemmas.Bool.{false≢true, eqb-false}
 use native.Mathlib.Omega.{arith}
 use Rattle.holidays.specs.Words.{pick}
 use Rattle.holidays.specs.Import.{insert, add}
-use Rattle.holidays.specs.Laws.Listed.{◌∈◌, Ascending, one_list}
+use Rattle.holidays.specs.Laws.Listed.{◌∈◌, Ascending}
 use Rattle.holidays.specs.Laws.Set.{insert_in, insert_has, insert_keeps, insert_ascends, add_in, add_has, add_keeps, add_ascends}
-use Rattle.holidays.specs.Laws.Places.{same_members, insert_old, insert_new, add_next, add_longer}
+use Rattle.holidays.specs.Laws.Places.{same_members}
 use Rattle.holidays.specs.Laws.Bits.{bit_put, bit_kept, bit_full, bit_empty}
-use Rattle.holidays.specs.Inner.Days.{FIRST, DAYS, WORDS, bit_of, bit_at, days_from, days_of}
+use Rattle.holidays.specs.Inner.Days.{FIRST, DAYS, bit_of, bit_at, days_from, days_of}
 
 -- ---- the days of bits
 pub record Among (n o : ℕ) (map : List ℕ) (d : ℕ) : Type 0 where

@@ -1,16 +1,16 @@
 -- Days and times by two digits at a time, and days 400 years on by those of 2000 to 2399.
 -- Assumes nothing.
-use Rattle.std.specs.Prelude.{ℕ, zero, suc, ◌+◌, ◌-◌, ◌*◌, ◌/◌, ◌%◌, ◌≤◌, ◌<◌, ◌≡◌, refl, Bool, true, false, ◌&&◌, ◌||◌, [], ◌∷◌, eqb, ltb, length, take, drop, get_or}
+use Rattle.std.specs.Prelude.{ℕ, zero, suc, ◌+◌, ◌-◌, ◌*◌, ◌/◌, ◌%◌, ◌≤◌, ◌<◌, ◌≡◌, refl, Bool, true, false, ◌&&◌, [], ◌∷◌, eqb, ltb, length, take, drop}
 use Rattle.std.proofs.Common.{sym, ap, ◌∙◌, add-zero, arith, length-drop, take_all, drop-drop}
 use Rattle.std.proofs.lemmas.Bool.{false≢true}
 use Rattle.std.proofs.Math.Dec.{leb}
-use borrow.Author.Tests.{ltb-true, leb-true, le-leb, lt-leb, lt-ltb, le-ltb, eqb-true, eq-eqb}
+use borrow.Author.Tests.{ltb-true, leb-true, le-leb, lt-ltb, eqb-true}
 use Rattle.refusal.specs.Answer.{given, refused}
 use Rattle.refusal.specs.Laws.Answers.{both, never_both}
-use Rattle.date.specs.Civil.{leap, row_of, month_length, day_number}
+use Rattle.date.specs.Civil.{leap, month_length, day_number}
 use Rattle.date.specs.Date.{make_of}
-use Rattle.date.specs.Laws.Made.{make_ok, Made, made, made_within}
-use Rattle.holidays.specs.Words.{Bytes, pick, spells}
+use Rattle.date.specs.Laws.Made.{make_ok, made, made_within}
+use Rattle.holidays.specs.Words.{Bytes, pick}
 use Rattle.holidays.specs.Nesting.{is_blank}
 use Rattle.holidays.specs.Dated.{are_digits, digits, number_from, spelled, exists, is_date, CYCLE, day_of, is_clock, is_date_time}
 use Rattle.holidays.specs.Laws.Cycle.{leap_again, number_again}

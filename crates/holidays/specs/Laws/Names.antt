@@ -1,10 +1,10 @@
 -- Names that count, by their numbers; and how many bytes a name and a value take.
 -- Assumes nothing.
-use Rattle.std.specs.Prelude.{ℕ, suc, ◌+◌, ◌≤◌, ◌≡◌, refl, Bool, true, false, not, ◌&&◌, List, [], ◌∷◌, eqb, length}
-use Rattle.std.proofs.Common.{sym, ap, ◌∙◌, arith, eq-eqb, ne_eqb, eqb-true}
-use Rattle.holidays.specs.Words.{Bytes, pick, ascii, upper, uppers, spells, QUOTE, COLON, SEMICOLON}
-use Rattle.holidays.specs.Content.{Value, none, value, Content, turned, by_mark, content_from, Name, begin, end, dtstart, dtend, recurring, other, name_of}
-use Rattle.holidays.specs.Nesting.{Parts, After, after_other, after}
+use Rattle.std.specs.Prelude.{ℕ, suc, ◌+◌, ◌≤◌, ◌≡◌, refl, Bool, true, false, not, ◌&&◌, [], ◌∷◌, eqb, length}
+use Rattle.std.proofs.Common.{sym, ap, ◌∙◌, arith, ne_eqb}
+use Rattle.holidays.specs.Words.{Bytes, pick, ascii, upper, uppers, QUOTE, COLON, SEMICOLON}
+use Rattle.holidays.specs.Content.{Value, value, turned, by_mark, content_from, Name, begin, end, dtstart, dtend, recurring, other, name_of}
+use Rattle.holidays.specs.Nesting.{Parts, after_other, after}
 use Rattle.holidays.specs.Laws.Letters.{same_number}
 use Rattle.holidays.specs.Laws.Pieces.{number_spells}
 use Rattle.holidays.specs.Inner.Letters.{letter, pack, packs}

@@ -8,8 +8,7 @@ use Rattle.std.proofs.Math.Bool.{true, false}
 use Rattle.std.proofs.lemmas.Bool.{false≢true, lt-leb}
 use Rattle.refusal.specs.Laws.Answers.{both}
 use Rattle.holidays.specs.Words.{Bytes, pick, ascii, upper, uppers, equal, spells}
-use Rattle.holidays.specs.Content.{value}
-use Rattle.holidays.specs.Nesting.{Parts, may_begin, broken, open_are, after_begin}
+use Rattle.holidays.specs.Nesting.{Parts, may_begin}
 use Rattle.holidays.specs.Events.{in_event}
 use Rattle.holidays.specs.Laws.Letters.{equal_is}
 use Rattle.holidays.specs.Laws.Pieces.{number_spells}

@@ -2,15 +2,14 @@
 -- Assumes nothing.
 use Rattle.std.specs.Prelude.{ℕ, ◌≡◌, refl, Bool, true, false, not, ◌&&◌, List, [], ◌∷◌, eqb}
 use Prim.Native.String.{String}
-use Rattle.std.proofs.Common.{sym, ap, ◌∙◌, arith, eqb-true, eq-eqb, ne_eqb}
+use Rattle.std.proofs.Common.{sym, ap, ◌∙◌, arith, eqb-true, ne_eqb}
 use Rattle.std.proofs.lemmas.Bool.{false≢true, eqb-false}
 use Rattle.holidays.specs.Words.{Bytes, pick, ascii, upper, uppers, spells, QUOTE, COLON, SEMICOLON, EQUALS}
 use Rattle.holidays.specs.Content.{Value, none, value, Content, turned, by_mark, content_from, Kind, unsaid, date, date_time, strange, kind_of, Parameter, by_equals, parameter_of, one_further, by_parameter, kind_in}
 use Rattle.holidays.specs.Laws.Letters.{spelled_so, spelled_not}
 use Rattle.holidays.specs.Inner.Letters.{letter, pack, packs}
 use Rattle.holidays.specs.Inner.Pieces.{Pieced, is_stop, by_stop, piece}
-use Rattle.holidays.specs.Inner.Digits.{kind_of_number}
-use Rattle.holidays.specs.Inner.Parameters.{own, one_of, join_kinds, kind_by, Tail, tail_of, said_at}
+use Rattle.holidays.specs.Inner.Parameters.{own, one_of, join_kinds, kind_by, Tail, tail_of}
 
 -- two different bytes
 other_mark : (b c d : ℕ) → eqb b c ≡ true → (c ≡ d → ⊥) → eqb b d ≡ false

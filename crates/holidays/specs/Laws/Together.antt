@@ -22,7 +22,7 @@ use Rattle.holidays.specs.Import.{Import, days, refused_at_lem, with_event, MOST
 use Rattle.holidays.specs.Laws.Listed.{◌∈◌, Ascending, Lists}
 use Rattle.holidays.specs.Laws.Set.{InEvent, Has, event_in, event_has, event_keeps, event_ascends, events_of, the_set}
 use Rattle.holidays.specs.Laws.Walk.{first_line, later_lines, some_line, file_lines}
-use Rattle.holidays.specs.Laws.Renumber.{line_as, lines_as, places_as, events_as, nested_from_as, blank_as, events_from_as}
+use Rattle.holidays.specs.Laws.Renumber.{line_as, lines_as, events_as, nested_from_as, events_from_as}
 
 -- ---- courses without a refusal, and one behind another
 abbrev pub Whole : Course Event → Type 0

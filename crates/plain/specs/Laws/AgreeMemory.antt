@@ -1,6 +1,6 @@
 -- Both directions agree in memory too, of every two calls that keep the promise of `build`.
 -- Assumes nothing.
-use Rattle.std.specs.Prelude.{ℕ, ◌+◌, ◌≡◌, length, eqb}
+use Rattle.std.specs.Prelude.{ℕ, ◌≡◌, length, eqb}
 use Rattle.std.proofs.Math.Path.{refl, ap, sym}
 use Rattle.std.proofs.Common.{◌∙◌}
 use mathlib.Core.List.{List, ◌++◌}
@@ -24,8 +24,8 @@ use Rattle.plain.specs.Laws.AgreeProved.{rule_of_lem, early_same, both_agree_wid
 module _ (q : Request) (k : ℕ) (w : Whole q k) where
   tenor_of_lem : (rule : Rule) → Direction rule → tenor_in_force (under rule q) ≡ q.tenor
   unfolding tenor_under is_zero one_of rule_number
-  tenor_of_lem Forward forward = tenor_under_lem (under Forward q) Forward (rule_of_lem q k w Forward)
-  tenor_of_lem Backward backward = tenor_under_lem (under Backward q) Backward (rule_of_lem q k w Backward)
+  tenor_of_lem rule forward = tenor_under_lem (under Forward q) Forward (rule_of_lem q k w Forward)
+  tenor_of_lem rule backward = tenor_under_lem (under Backward q) Backward (rule_of_lem q k w Backward)
 
   nothing_adjusts : (rule : Rule) → NothingAdjusts (under rule q)
   nothing_adjusts rule = record { convention = w.unadjusted; terminal = w.unadjusted_last; no_month_end = w.no_month_end }

@@ -284,8 +284,8 @@ module _ (q : Request) (k : ℕ) (w : Whole q k) where
 
 -- ---- where the checks are passed, and on every input
 pub both_evenly_wider : BothEvenly SameDay
-both_evenly_wider q k w same closed dates flags c Forward forward = forward_kept q k w closed dates flags c
-both_evenly_wider q k w same closed dates flags c Backward backward = backward_kept q k w closed dates flags c same
+both_evenly_wider q k w same closed dates flags c rule forward = forward_kept q k w closed dates flags c
+both_evenly_wider q k w same closed dates flags c rule backward = backward_kept q k w closed dates flags c same
 
 pub both_agree_wider : BothAgree SameDay
 unfolding build_of admitted

@@ -1,6 +1,6 @@
 -- The mirror of demand 3 holds of the definition of a build, and of the steps with no room limit; no two outcomes meet it.
 -- Assumes nothing.
-use Rattle.std.specs.Prelude.{ℕ, suc, ◌+◌, ◌-◌, ◌*◌, ◌/◌, ◌≤◌, ◌<◌, min, ◌≡◌, refl, List, [], ◌∷◌, ◌++◌, length, replicate}
+use Rattle.std.specs.Prelude.{ℕ, suc, ◌-◌, ◌*◌, ◌/◌, ◌≤◌, ◌<◌, min, ◌≡◌, refl, List, [], ◌∷◌, ◌++◌, length, replicate}
 use Rattle.std.proofs.Common.{ap, sym, ◌∙◌, subst, ⊎_elim, arith}
 use Rattle.refusal.specs.Answer.{Answer, given, refused, then, ROOM}
 use Rattle.refusal.specs.Laws.Answers.{never_both, one_given}

@@ -97,3 +97,5 @@ demand_on_in_memory q closed dates flags unadjusted dates' flags' unadjusted' r 
       left_alone = λ h. untouched (kept_of (out (refused ROOM) (k.refused_exactly.1 h)) w);
       written_else = λ n. let s = k.accepted_else n in written_on p ds m s.0 (kept_of (out (given s.0) s.1) w) s.2;
     }
+
+-- ---- where both directions give one list, in memory too: AgreeMemory

@@ -1,9 +1,9 @@
 -- The import of an exported file gives the list back.
 -- Assumes nothing.
-use Prim.Native.Nat.{ℕ, suc, ◌+◌, ◌-◌, ◌*◌, ◌≤◌, ◌<◌, min}
-use Rattle.std.specs.Prelude.{◌≡◌, Bool, true, false, ◌&&◌, leb, ltb, length}
+use Prim.Native.Nat.{ℕ, suc, ◌+◌, ◌-◌, ◌≤◌, ◌<◌, min}
+use Rattle.std.specs.Prelude.{◌≡◌, true, false, leb, length}
 use Rattle.std.proofs.Math.Path.{refl, ap}
-use Rattle.std.proofs.Common.{sym, ◌∙◌, inl, inr, length-append}
+use Rattle.std.proofs.Common.{sym, ◌∙◌, length-append}
 use mathlib.Core.List.{List, [], ◌∷◌, ◌++◌, append_assoc, append-nil}
 use native.Mathlib.Omega.{arith}
 use borrow.Author.Tests.{le-leb, lt-ltb, leb-true}
@@ -12,14 +12,14 @@ use Rattle.refusal.specs.Laws.Answers.{need_given, one_given}
 use Rattle.calendar.specs.Open.{closed_ok}
 use Rattle.holidays.specs.Words.{Bytes, pick, ascii, upper, uppers, equal, spells}
 use Rattle.holidays.specs.Lines.{Line, unmarked, without_mark, lines_of}
-use Rattle.holidays.specs.Content.{Value, turned, by_mark, content_from, content_of, name_of, kind_of, by_equals, parameter_of, one_further, by_parameter, kind_in}
+use Rattle.holidays.specs.Content.{turned, by_mark, content_from, content_of, name_of, kind_of, by_equals, parameter_of, one_further, by_parameter, kind_in}
 use Rattle.holidays.specs.Nesting.{Parts, may_begin, may_end, within, after_begin, after_end, after_other, after, last_of, is_blank, all_blank, at_end, on_after, place, on_placed, on_line, nested_from}
-use Rattle.holidays.specs.Dated.{by_kind, by_value, dated, CYCLE}
-use Rattle.holidays.specs.Events.{Event, nothing, day, Draft, blank, in_event, on_dated, unless_said, need, closed, closed_by, by_name, on_place, events_from}
-use Rattle.holidays.specs.Import.{Import, days, with_event, add, fits, on_room, on_days, gathered, size_ok, import_of, MOST}
-use Rattle.holidays.specs.Laws.Turns.{from_here, at_start, all_closed}
+use Rattle.holidays.specs.Dated.{by_value, dated, CYCLE}
+use Rattle.holidays.specs.Events.{nothing, day, Draft, blank, in_event, on_dated, unless_said, need, closed, closed_by, by_name, on_place, events_from}
+use Rattle.holidays.specs.Import.{days, with_event, add, fits, on_room, on_days, gathered, size_ok, import_of, MOST}
+use Rattle.holidays.specs.Laws.Turns.{from_here, at_start}
 use Rattle.holidays.specs.Laws.Listed.{◌∈◌, Ascending}
-use Rattle.publishing.specs.File.{Run, date_text, before, behind, event_lines, all_events, written, runs_of, file_of, export_of}
+use Rattle.publishing.specs.File.{Run, date_text, before, behind, event_lines, all_events, runs_of, file_of, export_of}
 use Rattle.publishing.specs.Laws.Sizes.{file_size}
 use Rattle.publishing.specs.Laws.Reading.{Clear, AllClear, are_clear, clear, clear_more, all_more, numbered, lines_of_written}
 use Rattle.publishing.specs.Laws.Dates.{date_reads}

@@ -1,17 +1,16 @@
 -- A day in eight digits reads back as that day.
 -- Assumes nothing.
-use Rattle.std.specs.Prelude.{ℕ, ◌+◌, ◌-◌, ◌*◌, ◌/◌, ◌%◌, ◌≤◌, ◌<◌, ◌≡◌, refl, Bool, true, false, ◌&&◌, List, [], ◌∷◌, ◌++◌, leb}
-use Rattle.std.proofs.Common.{ap, sym, ◌∙◌, arith, le-leb}
-use Rattle.date.specs.declared.Fields.{Fields}
+use Rattle.std.specs.Prelude.{ℕ, ◌+◌, ◌-◌, ◌*◌, ◌/◌, ◌%◌, ◌≤◌, ◌<◌, ◌≡◌, refl, Bool, true, false, ◌&&◌, ◌++◌, leb}
+use Rattle.std.proofs.Common.{ap, ◌∙◌, arith, le-leb}
 use Rattle.date.specs.Civil.{fields_of, day_number, month_length}
 use Rattle.date.specs.Laws.Round.{Valid, day_of_fields, fields_valid}
 use Rattle.date.specs.Laws.Months.{length_le}
 use Rattle.date.specs.Laws.Moves.{year_at_lem}
 use Rattle.holidays.specs.Words.{Bytes, pick}
 use Rattle.holidays.specs.Content.{date}
-use Rattle.holidays.specs.Dated.{Dated, all_day, are_digits, digits, number_from, exists, is_date, day_of, by_kind, CYCLE}
+use Rattle.holidays.specs.Dated.{all_day, are_digits, digits, number_from, exists, is_date, day_of, by_kind, CYCLE}
 use Rattle.holidays.specs.Laws.Cycle.{number_again}
-use Rattle.publishing.specs.File.{digit, two_digits, date_text}
+use Rattle.publishing.specs.File.{two_digits, date_text}
 
 both_true : (a b : Bool) → a ≡ true → b ≡ true → (a && b) ≡ true
 both_true true b p q = q

@@ -1,7 +1,7 @@
 -- The days of the runs are the list, and the import puts a run's days behind those before it.
 -- Assumes nothing.
 use Rattle.std.specs.Prelude.{ℕ, zero, suc, ◌+◌, ◌-◌, ◌≤◌, ◌<◌, ◌≡◌, refl, Bool, true, false, ◌&&◌, ◌⊎◌, List, [], ◌∷◌, ◌++◌, eqb, leb, ltb, length}
-use Rattle.std.proofs.Common.{ap, sym, ◌∙◌, subst, inl, inr, ⊎_elim, append_assoc, add-one, arith}
+use Rattle.std.proofs.Common.{ap, sym, ◌∙◌, inl, inr, append_assoc, arith}
 use borrow.Author.Tests.{eqb-true, eqb-false, lt-ltb, le-ltb, ne_eqb, leb-true}
 use Rattle.refusal.specs.Laws.Answers.{both}
 use Rattle.calendar.specs.Open.{ascending, closed_ok}

@@ -5,7 +5,7 @@ use Rattle.refusal.specs.Answer.{Answer, given, refused, then, REQUEST}
 use Rattle.request.specs.declared.fields.Step.{Step}
 use Rattle.request.specs.declared.fields.Step.TheVariants.{Broken, End, Next}
 use Rattle.request.specs.Encode.{bits16}
-use Rattle.request.specs.Format.{pick, two, body_ok, Field, Cut, last_tag, cut_of, on_cut, fields_from, body_or, dates_of}
+use Rattle.request.specs.Format.{pick, two, body_ok, Field, last_tag, cut_of, on_cut, fields_from, body_or, dates_of}
 
 -- a byte as a wider number
 pub record Wide (x r : ℕ) : Type 0 where

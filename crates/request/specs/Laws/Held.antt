@@ -2,7 +2,7 @@
 -- Assumes nothing.
 use Rattle.std.specs.Prelude.{ℕ, ◌-◌, ◌≤◌, ◌≡◌, refl, List, length, take, drop}
 use Rattle.std.proofs.Common.{ap, subst, ◌∙◌, arith, take_at, leb-true}
-use Rattle.refusal.specs.Answer.{Answer, given, refused, need, then}
+use Rattle.refusal.specs.Answer.{Answer, given, refused}
 use Rattle.refusal.specs.Laws.Answers.{need_given, then_stepped, one_given}
 use Rattle.steps.specs.declared.Request.{Request}
 use Rattle.steps.specs.Build.{over}

@@ -1,12 +1,12 @@
 -- A schedule has at least one date, no more than there is room for, and one flag fewer than dates.
 -- Assumes nothing.
 use Prim.Native.Nat.{ℕ, zero, suc, ◌+◌, ◌-◌, ◌≤◌, min}
-use Rattle.std.specs.Prelude.{◌≡◌, Bool, List, ◌++◌, reverse, eqb, ltb, leb, length, get_or, take, drop, set}
+use Rattle.std.specs.Prelude.{◌≡◌, Bool, List, ◌++◌, reverse, eqb, leb, length, get_or, take, drop, set}
 use Rattle.std.proofs.Math.Path.{refl}
 use Rattle.std.proofs.Common.{sym, ap, ◌∙◌, arith, length-append, length-take, length-drop, length-set, leb-true, ltb-true}
 use Rattle.std.proofs.Math.Bool.{true, false}
 use Rattle.std.proofs.lemmas.List.{length-reverse}
-use Rattle.refusal.specs.Answer.{Answer, given, need, then, ROOM, COLLAPSED}
+use Rattle.refusal.specs.Answer.{Answer, given, then, ROOM, COLLAPSED}
 use Rattle.refusal.specs.Laws.Answers.{need_given, never_both, one_given, then_stepped, both}
 use Rattle.calendar.specs.declared.Convention.{Convention}
 use Rattle.steps.specs.declared.Pace.{Pace}
@@ -17,7 +17,7 @@ use Rattle.steps.specs.declared.Rule.{Rule}
 use Rattle.steps.specs.Rules.{rule_in_force, is_zero, is_backward, is_credit, on_twentieths}
 use Rattle.steps.specs.Generate.{Lists, Walk, nothing, onto, has_room_in, put, put_unless, put_new, on_turn, walk, candidates, put_anchor, Made, zero_dates, put_penultimate, begun, ended, backward_end, backward_from, backward, put_earlier, credit_opening, opening_by, opening, Opened, put_seed, put_first, put_coming, put_twentieth, second, put_closing, closing, opened, shut, forward_end, forward_from, forward, generate_by, generate}
 use Rattle.steps.specs.Table.{first_row, input_rows}
-use Rattle.steps.specs.Finish.{same_flag, Merged, each, between, on_first, on_last, on_middle, wednesdays, wednesdays_by, adjustments, meet_at_end, merge_end_if, merge_end, merge_front_if, merge_front, finish}
+use Rattle.steps.specs.Finish.{same_flag, Merged, between, on_first, on_last, on_middle, wednesdays, wednesdays_by, adjustments, meet_at_end, merge_end_if, merge_end, merge_front_if, merge_front, finish}
 use Rattle.steps.specs.Build.{Schedule, steps_of, admitted, build_of}
 use Rattle.steps.specs.Laws.Parts.{as_many}
 

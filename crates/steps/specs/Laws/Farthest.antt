@@ -1,8 +1,8 @@
 -- How far the dates of a schedule moved: no less than any entry's two dates are apart, and as far as one entry's are; 0 where nothing
 -- adjusts.
 -- Assumes nothing.
-use Rattle.std.specs.Prelude.{ℕ, zero, suc, ◌+◌, ◌-◌, ◌≤◌, ◌<◌, max, ◌≡◌, refl, Bool, true, false, List, [], ◌∷◌, leb, length, get_or, take}
-use Rattle.std.proofs.Common.{sym, ◌∙◌, arith, leb-true, leb-false}
+use Rattle.std.specs.Prelude.{ℕ, zero, suc, ◌-◌, ◌≤◌, ◌<◌, max, ◌≡◌, refl, Bool, true, false, List, [], ◌∷◌, leb, length, get_or, take}
+use Rattle.std.proofs.Common.{sym, arith, leb-true, leb-false}
 use Rattle.std.proofs.Math.Path.{ap}
 use Rattle.refusal.specs.Answer.{Answer, given, refused}
 use Rattle.steps.specs.declared.Request.{Request}

@@ -1,6 +1,6 @@
 -- Request L14: what refusal 27 is given for, that nothing else moved with it, and what end of month is left with.
 -- Assumes nothing.
-use Rattle.std.specs.Prelude.{ℕ, zero, suc, ◌<◌, ◌≡◌, Bool, not, ◌&&◌, ◌⊎◌, eqb, ℤ, pos, negsuc, nat_abs, take}
+use Rattle.std.specs.Prelude.{ℕ, zero, suc, ◌≡◌, Bool, not, ◌&&◌, ◌⊎◌, eqb, ℤ, pos, negsuc, take}
 use Rattle.std.proofs.Math.Path.{refl, ap}
 use Rattle.std.proofs.Common.{sym, ◌∙◌, arith, ne_eqb, lt-ltb}
 use Rattle.std.proofs.Math.Bool.{true, false, false≢true}

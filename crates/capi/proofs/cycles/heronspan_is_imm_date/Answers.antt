@@ -1,0 +1,11 @@
+use Rattle.crossing.specs.Answers.{yes}
+use Rattle.crossing.specs.Laws.Calls.{flag_named, flag_unnamed, named, told, told_refused, unnamed}
+use Rattle.capi.proofs.cycles.heronspan_is_imm_date.Goals as goal
+
+pub returns-in-Is : goal.returns-in-Is
+returns-in-Is c =
+    told yes c.of_tested.type_inv _ _ c.of_tested.ensures
+    (named _ _ _ _ (flag_named c.flag_of-named.ensures _ c.in-Is.is) c.is_imm_date.ensures)
+
+pub returns-in-Refused : goal.returns-in-Refused
+returns-in-Refused c = told_refused yes c.minus.type_inv _ _ c.minus.ensures (unnamed _ _ _ (flag_unnamed c.flag_of-named.ensures _ c.in-Refused.is))

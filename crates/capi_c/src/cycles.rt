@@ -1,0 +1,87 @@
+// IMM dates and codes, and twentieths. `main` is 1 for the main cycle, 0 for every month.
+ghost use Rattle.std.specs.Prelude.{◌≡◌};
+ghost use Rattle.refusal.specs.Answer.{given, then};
+ghost use Rattle.imm.specs.Imm.{is_imm_in, is_code, code_in, date_in, next_in, next_with_code, next_code_in, next_code_with_code};
+ghost use Rattle.steps.specs.Twentieths.{next_twentieth_of, previous_twentieth_of};
+ghost use Rattle.crossing.specs.Answers.{one_number_of, itself, yes, two_bytes};
+ghost use Rattle.crossing.specs.Numbers.{flag_of, rule_of};
+
+// 1 where the day is an IMM date, 0 where it is not.
+#[unsafe(no_mangle)]
+pub extern "C" fn heronspan_is_imm_date(day: u32, main: u8) -> i64
+    ensures { result ≡ one_number_of yes (then (flag_of main) (λ m. is_imm_in m day)) }
+{
+    capi::cycles::heronspan_is_imm_date(day, main)
+}
+
+// 1 where the bytes are a code, 0 where they are not.
+#[unsafe(no_mangle)]
+pub extern "C" fn heronspan_is_imm_code(code: &[u8], main: u8) -> i64
+    ensures { result ≡ one_number_of yes (then (flag_of main) (λ m. given (is_code m code.now))) }
+{
+    capi::cycles::heronspan_is_imm_code(code, main)
+}
+
+// The code of an IMM date, as letter * 256 + digit, both bytes.
+#[unsafe(no_mangle)]
+pub extern "C" fn heronspan_imm_code(day: u32) -> i64
+    ensures { result ≡ one_number_of two_bytes (code_in day) }
+{
+    capi::cycles::heronspan_imm_code(day)
+}
+
+// The earliest IMM date on or after the day that the code names.
+#[unsafe(no_mangle)]
+pub extern "C" fn heronspan_imm_date(code: &[u8], day: u32) -> i64
+    ensures { result ≡ one_number_of itself (date_in code.now day) }
+{
+    capi::cycles::heronspan_imm_date(code, day)
+}
+
+// The earliest IMM date after the day.
+#[unsafe(no_mangle)]
+pub extern "C" fn heronspan_next_imm_date(day: u32, main: u8) -> i64
+    ensures { result ≡ one_number_of itself (then (flag_of main) (λ m. next_in m day)) }
+{
+    capi::cycles::heronspan_next_imm_date(day, main)
+}
+
+// The earliest IMM date after the one that the code names.
+#[unsafe(no_mangle)]
+pub extern "C" fn heronspan_next_imm_date_with_code(code: &[u8], main: u8, day: u32) -> i64
+    ensures { result ≡ one_number_of itself (then (flag_of main) (λ m. next_with_code code.now m day)) }
+{
+    capi::cycles::heronspan_next_imm_date_with_code(code, main, day)
+}
+
+// The code of the earliest IMM date after the day.
+#[unsafe(no_mangle)]
+pub extern "C" fn heronspan_next_imm_code(day: u32, main: u8) -> i64
+    ensures { result ≡ one_number_of two_bytes (then (flag_of main) (λ m. next_code_in m day)) }
+{
+    capi::cycles::heronspan_next_imm_code(day, main)
+}
+
+// The code of the earliest IMM date after the one that the code names.
+#[unsafe(no_mangle)]
+pub extern "C" fn heronspan_next_imm_code_with_code(code: &[u8], main: u8, day: u32) -> i64
+    ensures { result ≡ one_number_of two_bytes (then (flag_of main) (λ m. next_code_with_code code.now m day)) }
+{
+    capi::cycles::heronspan_next_imm_code_with_code(code, main, day)
+}
+
+// The first twentieth on or after the day; for the rules of IMM months, of March, June, September or December.
+#[unsafe(no_mangle)]
+pub extern "C" fn heronspan_next_twentieth(day: u32, rule: u8) -> i64
+    ensures { result ≡ one_number_of itself (then (rule_of rule) (λ k. next_twentieth_of k day)) }
+{
+    capi::cycles::heronspan_next_twentieth(day, rule)
+}
+
+// The last twentieth on or before the day, as a CDS rule counts back from it.
+#[unsafe(no_mangle)]
+pub extern "C" fn heronspan_previous_twentieth(day: u32, rule: u8) -> i64
+    ensures { result ≡ one_number_of itself (then (rule_of rule) (λ k. previous_twentieth_of k day)) }
+{
+    capi::cycles::heronspan_previous_twentieth(day, rule)
+}

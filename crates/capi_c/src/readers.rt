@@ -1,0 +1,31 @@
+// Requests off the wire: a reader that the caller keeps, lent to each call.
+ghost use Rattle.fed.specs.Handed.{Renewed, Fed, Ended};
+
+// Makes the reader a new one, whatever it was. Answers 0.
+#[unsafe(no_mangle)]
+pub extern "C" fn heronspan_reset(reader: &mut [u16; 46]) -> i64
+    ensures { Renewed reader.old result reader.new }
+{
+    capi::readers::heronspan_reset(reader)
+}
+
+// Takes in a part of the bytes, as `feeding::feed`: 0 to go on; once the request was declared finished, the finish's answer.
+#[unsafe(no_mangle)]
+pub extern "C" fn heronspan_feed(
+    reader: &mut [u16; 46],
+    part: &[u8],
+    buffer: &mut [u8],
+    closed: &mut [u32],
+) -> i64
+    ensures { Fed reader.old part.now buffer.old closed.old result reader.new buffer.new closed.new }
+{
+    capi::readers::heronspan_feed(reader, part, buffer, closed)
+}
+
+// Declares the request finished, as `feeding::finish`: 1, and its thirteen numbers stand in the reader; or minus the refusal.
+#[unsafe(no_mangle)]
+pub extern "C" fn heronspan_finish(reader: &mut [u16; 46], buffer: &[u8], closed: &mut [u32]) -> i64
+    ensures { Ended reader.old buffer.now closed.old result reader.new closed.new }
+{
+    capi::readers::heronspan_finish(reader, buffer, closed)
+}

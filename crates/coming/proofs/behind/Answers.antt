@@ -1,0 +1,8 @@
+use Rattle.coming.proofs.Ways.{from_seed}
+use Rattle.coming.proofs.behind.Goals as goal
+
+pub overflow_add-k : goal.overflow_add-k
+overflow_add-k c = search from_seed
+
+pub returns : goal.returns
+returns c = search from_seed

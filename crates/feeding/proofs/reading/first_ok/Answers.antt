@@ -1,0 +1,23 @@
+use Rattle.feeding.proofs.ByteWays.{firsts}
+use Rattle.feeding.proofs.reading.first_ok.Goals as goal
+
+pub returns-in-3 : goal.returns-in-3
+returns-in-3 c = search firsts
+
+pub returns-in-4 : goal.returns-in-4
+returns-in-4 c = search firsts
+
+pub returns-in-5 : goal.returns-in-5
+returns-in-5 c = search firsts
+
+pub returns-in-6 : goal.returns-in-6
+returns-in-6 c = search firsts
+
+pub returns-in-7 : goal.returns-in-7
+returns-in-7 c = search firsts
+
+pub returns-in-10 : goal.returns-in-10
+returns-in-10 c = search firsts
+
+pub returns-in_default : goal.returns-in_default
+returns-in_default c = search firsts

@@ -1,0 +1,5 @@
+use Rattle.publishing.proofs.Putting.{copies}
+use Rattle.publishing.proofs.puts.put_bytes.Goals as goal
+
+pub loop-i-preserved : goal.loop-i-preserved
+loop-i-preserved c = search copies

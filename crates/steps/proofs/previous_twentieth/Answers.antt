@@ -1,0 +1,12 @@
+use Rattle.date.specs.Date.{dated}
+use Rattle.refusal.specs.Laws.Answers.{failed, passed}
+use Rattle.steps.specs.Twentieths.{previous_twentieth_of}
+use Rattle.steps.proofs.previous_twentieth.Goals as goal
+
+pub returns-then-in_book : goal.returns-then-in_book
+unfolding previous_twentieth_of
+returns-then-in_book c = passed _ _ _ _ _ c.in_book.ensures c.if-in_book.true c.previous.ensures
+
+pub returns : goal.returns
+unfolding dated previous_twentieth_of
+returns c = failed _ _ _ _ c.in_book.ensures c.if-in_book.false

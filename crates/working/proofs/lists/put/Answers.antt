@@ -1,0 +1,28 @@
+use Rattle.std.proofs.Common.{arith, sym, ◌∙◌}
+use Rattle.working.proofs.Puts.{places_no, places_yes, put_full, put_ready}
+use Rattle.working.proofs.lists.put.Goals as goal
+
+pub returns-then-room-n : goal.returns-then-room-n
+returns-then-room-n c = record { run = λ p. put_full _ p _ _ c.if-room-n.true }
+
+pub place_of-at-requires : goal.place_of-at-requires
+place_of-at-requires c = (places_yes _ _ _ (sym c.has_place.ensures ∙ c.if-has_place.true)).0
+
+pub bounds-work-at : goal.bounds-work-at
+bounds-work-at c =
+    let y = places_yes _ _ _ (sym c.has_place.ensures ∙ c.if-has_place.true) in
+    omega (arith, y.1, c.place_of-at.ensures.1)
+
+pub bounds-marks-at : goal.bounds-marks-at
+bounds-marks-at c =
+    let y = places_yes _ _ _ (sym c.has_place.ensures ∙ c.if-has_place.true) in
+    omega (arith, y.2, c.place_of-at.ensures.1)
+
+pub returns-then-has_place : goal.returns-then-has_place
+returns-then-has_place c = record { run = λ p. put_ready _ p _ _ _ c.if-room-n.false c.place_of-at.ensures.0 }
+
+pub returns : goal.returns
+returns c =
+    record {
+      run = λ p. absurd (places_no _ _ _ (sym c.has_place.ensures ∙ c.if-has_place.false) (omega (arith, p, c.if-room-n.false)) p.work_size p.marks_size);
+    }
