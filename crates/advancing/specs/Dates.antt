@@ -124,10 +124,12 @@ unfolding advance_of
 answered m e b u h = (need_given BOOK (in_book m) _ e h).0
 
 pub days_then : (u : Unit) → InDays u → (d m e : ℕ) (a b : ℤ) → advance_of d a u ≡ given m → advance_of m b u ≡ given e → advance_of d (a +ℤ b) u ≡ given e
-days_then u i d m e a b h h' = sym (days_add u i d m a b h (answered m e b u h')) ∙ h'
+days_then u i d m e a b h h' = sym (add_up (in_days_lem u i) d m a b (days d m) h (answered m e b u h')) ∙ h'
 
 pub months_then : (u : Unit) → InMonths u → (d m e : ℕ) (a b : ℤ) → (fields_of d).day ≤ 28 → advance_of d a u ≡ given m → advance_of m b u ≡ given e → advance_of d (a +ℤ b) u ≡ given e
-months_then u i d m e a b f h h' = sym (months_add u i d m a b f h (answered m e b u h')) ∙ h'
+months_then u i d m e a b f h h' =
+    let k = kept d m _ _ (from_book (in_months u i) d m a h).1 f in
+    sym (months_add_kept u i d m a b k h (answered m e b u h')) ∙ h'
 
 -- ---- months from any day: the chain gives the sum's date exactly if that date's day of the month is at most the middle one's
 shorter : (t d c n : ℕ) → c ≤ d → in_month t d ≡ given n → (fields_of n).day ≤ c → in_month t c ≡ given n

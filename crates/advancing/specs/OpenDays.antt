@@ -20,7 +20,7 @@ use Rattle.calendar.specs.AnyCalendar as any
 use Rattle.calendar.specs.Adjust.{in_span, open_steps}
 use Rattle.calendar.specs.Calendar.{longest, tenor_ok, advanced_of}
 use Rattle.advancing.specs.Laws.Signs.{Sum, sum}
-use Rattle.advancing.specs.Laws.OpenSteps.{of_span, return, from_open, one_way}
+use Rattle.advancing.specs.Laws.OpenSteps.{of_span, return, from_open}
 
 -- neither is negative, or neither is positive
 pub data Like (a b : ℤ) : Type 0 where
@@ -41,7 +41,7 @@ before_none false k l j z e = omega arith
 before_none true k l j z e = omega arith
 
 -- the sum of like numbers is as large as both together
-like_size : (a b : ℤ) → Like a b → nat_abs (a +ℤ b) ≡ nat_abs a + nat_abs b
+pub like_size : (a b : ℤ) → Like a b → nat_abs (a +ℤ b) ≡ nat_abs a + nat_abs b
 like_size (pos k) (pos l) i = refl
 like_size (pos k) (negsuc l) (none_negative x y) = absurd (false≢true y)
 like_size (pos k) (negsuc l) (none_positive x y) = after_none _ k (suc l) _ (not_positive k x) (sum (pos k) (negsuc l))
@@ -55,13 +55,13 @@ book_span day h =
     of_span day (record { low = omega (arith, book_from day h); high = omega (arith, book_le day h) })
 
 -- what the call tests before it goes
-record Tested (mask : ℕ) (closed : List ℕ) (a : ℤ) (day : ℕ) : Type 0 where
-  book : in_book day ≡ true
-  sound : calendar_ok mask closed ≡ true
-  size : nat_abs a ≤ 366
+pub record Tested (mask : ℕ) (closed : List ℕ) (a : ℤ) (day : ℕ) : Type 0 where
+  pub book : in_book day ≡ true
+  pub sound : calendar_ok mask closed ≡ true
+  pub size : nat_abs a ≤ 366
 
 module _ (mask : ℕ) (closed : List ℕ) where
-  asked : (v : Convention) (e : Bool) (a : ℤ) (day new : ℕ) → advanced_of mask closed a Days v e day ≡ given new → Tested mask closed a day
+  pub asked : (v : Convention) (e : Bool) (a : ℤ) (day new : ℕ) → advanced_of mask closed a Days v e day ≡ given new → Tested mask closed a day
   unfolding advanced_of tenor_ok longest
   asked v e a day new h =
       let p = need_given BOOK (in_book day) _ new h in
@@ -91,7 +91,7 @@ opposite (negsuc k) = refl
 
 -- ---- the laws
 module _ (mask : ℕ) (closed : List ℕ) (v v' : Convention) (e e' : Bool) (a : ℤ) (day new : ℕ) (first : advanced_of mask closed a Days v e day ≡ given new) where
-  gone : open_steps mask closed (is_negative a) (nat_abs a) day ≡ given new
+  pub gone : open_steps mask closed (is_negative a) (nat_abs a) day ≡ given new
   gone = sym (as_steps mask closed v e a day (asked mask closed v e a day new first)) ∙ first
 
   calendar_sound : calendar_ok mask closed ≡ true
@@ -101,28 +101,15 @@ module _ (mask : ℕ) (closed : List ℕ) (v v' : Convention) (e e' : Bool) (a :
   in_span_lem = book_span day (asked mask closed v e a day new first).book
 
   module _ (v'' : Convention) (e'' : Bool) (b : ℤ) where
-    as_one : in_book new ≡ true → nat_abs b ≤ 366 → nat_abs (a +ℤ b) ≤ 366 → open_steps mask closed (is_negative b) (nat_abs b) new ≡ open_steps mask closed (is_negative (a +ℤ b)) (nat_abs (a +ℤ b)) day → advanced_of mask closed b Days v' e' new ≡ advanced_of mask closed (a +ℤ b) Days v'' e'' day
+    pub as_one : in_book new ≡ true → nat_abs b ≤ 366 → nat_abs (a +ℤ b) ≤ 366 → open_steps mask closed (is_negative b) (nat_abs b) new ≡ open_steps mask closed (is_negative (a +ℤ b)) (nat_abs (a +ℤ b)) day → advanced_of mask closed b Days v' e' new ≡ advanced_of mask closed (a +ℤ b) Days v'' e'' day
     as_one q x y h =
         as_steps mask closed v' e' b new (record { book = q; sound = calendar_sound; size = x })
         ∙ h
         ∙ sym (as_steps mask closed v'' e'' (a +ℤ b) day (record { book = (asked mask closed v e a day new first).book; sound = calendar_sound; size = y }))
 
-    -- a, then b of the like sign from a date of the book, is a + b: the same date, or the same refusal; from any day, open or closed
-    pub open_days_add : Like a b → in_book new ≡ true → nat_abs (a +ℤ b) ≤ 366 → advanced_of mask closed b Days v' e' new ≡ advanced_of mask closed (a +ℤ b) Days v'' e'' day
-    open_days_add i q z = as_one q (omega (arith, like_size a b i)) z (one_way mask closed day new _ _ _ _ _ _ (sum a b) (like_size a b i) gone)
-
     -- from an open day the same for every two signs
     pub open_days_add_from_open : is_open_day mask closed day ≡ true → in_book new ≡ true → nat_abs b ≤ 366 → nat_abs (a +ℤ b) ≤ 366 → advanced_of mask closed b Days v' e' new ≡ advanced_of mask closed (a +ℤ b) Days v'' e'' day
     open_days_add_from_open o q x z = as_one q x z (from_open mask closed day new o in_span_lem _ _ _ _ _ _ (sum a b) gone)
-
-    -- so if the first two are answered and the sum is at most 366, the third is, and is the same
-    pub open_days_third : (end : ℕ) → Like a b → nat_abs (a +ℤ b) ≤ 366 → advanced_of mask closed b Days v' e' new ≡ given end → advanced_of mask closed (a +ℤ b) Days v'' e'' day ≡ given end
-    open_days_third end i z h = sym (open_days_add i (asked mask closed v' e' b new end h).book z) ∙ h
-
-    -- and where all three are answered they agree
-    pub open_days_agree : (end other : ℕ) → Like a b → advanced_of mask closed b Days v' e' new ≡ given end → advanced_of mask closed (a +ℤ b) Days v'' e'' day ≡ given other → end ≡ other
-    open_days_agree end other i h h' =
-        one_given _ end other (open_days_third end i (asked mask closed v'' e'' (a +ℤ b) day other h').size h) h'
 
   -- from an open day, a and then - a is the start: answered, if the day between lies in the book
   pub open_days_return : is_open_day mask closed day ≡ true → in_book new ≡ true → advanced_of mask closed (neg_ℤ a) Days v' e' new ≡ given day
@@ -133,4 +120,7 @@ module _ (mask : ℕ) (closed : List ℕ) (v v' : Convention) (e e' : Bool) (a :
 
   -- so where both are answered the second is the start
   pub open_days_back : (end : ℕ) → is_open_day mask closed day ≡ true → advanced_of mask closed (neg_ℤ a) Days v' e' new ≡ given end → end ≡ day
-  open_days_back end o h = one_given _ end day h (open_days_return o (asked mask closed v' e' (neg_ℤ a) new end h).book)
+  open_days_back end o h =
+      one_given _ end day
+      (sym (as_steps mask closed v' e' (neg_ℤ a) new (asked mask closed v' e' (neg_ℤ a) new end h)) ∙ h)
+      (back_steps mask closed a day new o in_span_lem gone)

@@ -16,8 +16,8 @@ use Rattle.steps.specs.declared.Request.{Request}
 use Rattle.steps.specs.declared.Built.{Built}
 use Rattle.steps.specs.Build.{answered, dates_after, flags_after}
 use Rattle.steps.specs.Entries.{Entries, entries_of, paid_of, moved_of, unadjusted_after, Written}
-use Rattle.outcomes.specs.Refusals.{never_zero}
-use Rattle.outcomes.specs.Uneven.{uneven_exactly, refused_as_before}
+use Rattle.outcomes.proofs.Refusals.{never_zero}
+use Rattle.outcomes.proofs.Uneven.{uneven_exactly, refused_as_before}
 use Rattle.request.specs.declared.Decoded.{Decoded}
 use Rattle.request.specs.declared.Decoded.TheVariants as decoded-is
 use Rattle.request.specs.Format.{decoded}

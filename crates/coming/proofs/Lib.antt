@@ -1,2 +1,4 @@
+pub mod Laws
+pub mod Promise
 pub mod Counting
 pub mod Ways

@@ -1,5 +1,3 @@
 -- What is proved of the definitions beside this folder, for proofs that stand on them.
 pub mod Straight
-pub mod Forwards
-pub mod Backwards
 pub mod Counted

@@ -8,9 +8,6 @@ pub mod Finished
 pub mod Listed
 pub mod Looped
 pub mod Tenor
-pub mod Generating
 pub mod Roomless
-pub mod Rows
 pub mod FirstDate
-pub mod Bound
 pub mod Room

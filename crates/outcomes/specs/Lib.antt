@@ -3,7 +3,6 @@ pub mod Laws
 pub mod Late
 pub mod Grid
 pub mod NoLimit
-pub mod Refusals
 pub mod Uneven
 pub mod RustStep
 pub mod Closed

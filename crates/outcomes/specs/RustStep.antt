@@ -1,5 +1,5 @@
 -- The Rust's step back to the previous twentieth, which goes as many months back as the next IMM month lies ahead; and what a build with it has to do
--- with `build_of`: the same but under CDS and CDS2015 where the two twentieths differ, and there only the first date generated is another.
+-- with `build_of`: the same but under CDS and CDS2015 where the two twentieths differ.
 -- Assumes nothing.
 use Prim.Native.Nat.{ℕ, zero, suc, ◌+◌, ◌-◌, ◌/◌, ◌%◌, ◌≤◌, ◌<◌, min}
 use Rattle.std.specs.Prelude.{◌≡◌, Bool, ◌&&◌, ◌||◌, List, eqb, leb, ltb, get_or}
@@ -7,7 +7,7 @@ use Rattle.std.proofs.Math.Path.{refl, ap}
 use Rattle.std.proofs.Common.{sym, ◌∙◌, arith}
 use Rattle.std.proofs.Math.Bool.{true, false}
 use Rattle.std.proofs.lemmas.Bool.{false≢true}
-use borrow.Author.Tests.{ne_eqb, eqb-true, not-false, leb-true, le-ltb}
+use borrow.Author.Tests.{ne_eqb, leb-true, le-ltb}
 use Rattle.refusal.specs.Answer.{Answer, given, need, then, ROOM}
 use Rattle.refusal.specs.Laws.Answers.{need_given, one_given, then_stepped, below, all_below}
 use Rattle.date.specs.Civil.{leap, row_of, month_length, gone, sum_to, guess, years_gone, month_in, day_in, place_of, fields_at, fields_of, day_number}
@@ -21,16 +21,14 @@ use Rattle.steps.specs.declared.Rule.TheVariants.{Zero, Backward, Forward, Twent
 use Rattle.steps.specs.declared.Request.{Request}
 use Rattle.steps.specs.Rules.{rule_number, one_of, rule_in_force, rule_under, is_none, is_zero, is_backward, in_imm_months, on_twentieths, is_credit, is_old_cds}
 use Rattle.steps.specs.Table.{first_row, input_rows, by_range, by_imm, wrong_rule, is_given}
-use Rattle.steps.specs.Laws.Table.{accepted}
 use Rattle.steps.specs.Twentieths.{twentieth_of, moved_if, skip_of, to_imm_month, next_twentieth, previous_twentieth}
 use Rattle.steps.specs.Generate.{Lists, Made, nothing, onto, has_room_in, put, put_earlier, credit_opening, opening_by, opening, far_enough, is_near, coming_twentieth, put_coming, put_twentieth, second, opened, zero_dates, backward, forward_from, forward, generate_by, generate}
 use Rattle.steps.specs.Finish.{finish}
 use Rattle.steps.specs.Build.{Schedule, steps_of, admitted, build_of}
 use Rattle.outcomes.specs.Laws.Days.{days_apart}
 use Rattle.outcomes.specs.Laws.Searched.{adjusted_near}
-use Rattle.outcomes.specs.Laws.Generating.{passed}
-use Rattle.outcomes.specs.Grid.{Gives, weaker, IsTwentieth, Last, twentieth_number, twentieth_month, twentieth_le, in_month_lem, shift, reached, previous_from, next_from_lem}
-use Rattle.outcomes.specs.Laws.FirstDate.{Alike, Behind, Opens, both_gave, second_alike, forward_alike}
+use Rattle.outcomes.specs.Grid.{Gives, weaker, IsTwentieth, Last, twentieth_number, twentieth_month, twentieth_le, in_month_lem, shift, reached}
+use Rattle.outcomes.specs.Laws.FirstDate.{Alike, Opens, second_alike}
 
 -- ---- the Rust's step, and a build with it
 unfoldable pub rust_previous : Rule → ℕ → Answer ℕ
@@ -157,7 +155,7 @@ apart rule d b n =
     (rw (r.onward f) w.0, rw (r.onward g) w.1)
 
 -- ---- so no date is put before either
-alone : (q : Request) (closed : List ℕ) (room day : ℕ) (l : Lists) → Far q.effective.day day → credit_opening q closed room day ≡ given l → l ≡ onto day 1 nothing
+pub alone : (q : Request) (closed : List ℕ) (room day : ℕ) (l : Lists) → Far q.effective.day day → credit_opening q closed room day ≡ given l → l ≡ onto day 1 nothing
 unfolding credit_opening put_earlier put then
 alone q closed room day l far h =
     let s = then_stepped (adjusted q.mask closed q.convention day) _ l h in
@@ -168,18 +166,18 @@ alone q closed room day l far h =
     by false e i = one_given (given (onto day 1 nothing)) l (onto day 1 nothing) (need_given ROOM (has_room_in room nothing) (given (onto day 1 nothing)) l i).1 refl
 
 -- ---- CDS and CDS2015 among the groups of rules
-record Credit (rule : Rule) : Type 0 where
-  twentieths : on_twentieths rule ≡ true
-  not_old : is_old_cds rule ≡ false
-  not_zero : is_zero rule ≡ false
-  not_backward : is_backward rule ≡ false
-  anchors : (n : ℕ) → wrong_rule rule n ≡ is_given n
+pub record Credit (rule : Rule) : Type 0 where
+  pub twentieths : on_twentieths rule ≡ true
+  pub not_old : is_old_cds rule ≡ false
+  pub not_zero : is_zero rule ≡ false
+  pub not_backward : is_backward rule ≡ false
+  pub anchors : (n : ℕ) → wrong_rule rule n ≡ is_given n
 
 and_true : (b : Bool) → (b && true) ≡ b
 and_true true = refl
 and_true false = refl
 
-credit_is : (rule : Rule) → is_credit rule ≡ true → Credit rule
+pub credit_is : (rule : Rule) → is_credit rule ≡ true → Credit rule
 unfolding rule_number one_of is_credit on_twentieths is_old_cds is_zero is_backward by_range by_imm wrong_rule
 credit_is Zero e = absurd (false≢true e)
 credit_is Backward e = absurd (false≢true e)
@@ -192,18 +190,18 @@ credit_is OldCDS e = absurd (false≢true e)
 credit_is CDS e = record { twentieths = refl; not_old = refl; not_zero = refl; not_backward = refl; anchors = λ n. and_true (is_given n) }
 credit_is CDS2015 e = record { twentieths = refl; not_old = refl; not_zero = refl; not_backward = refl; anchors = λ n. and_true (is_given n) }
 
-in_force : (n : Bool) (rule : Rule) → is_credit (rule_under n rule) ≡ true → rule_under n rule ≡ rule
+pub in_force : (n : Bool) (rule : Rule) → is_credit (rule_under n rule) ≡ true → rule_under n rule ≡ rule
 unfolding rule_under is_credit one_of rule_number
 in_force true rule e = absurd (false≢true e)
 in_force false rule e = refl
 
 -- ---- the second date lies after the effective date, and does not depend on the first
-coming_is : (rule : Rule) (d n : ℕ) → is_old_cds rule ≡ false → next_twentieth rule d ≡ given n → coming_twentieth rule d ≡ given n
+pub coming_is : (rule : Rule) (d n : ℕ) → is_old_cds rule ≡ false → next_twentieth rule d ≡ given n → coming_twentieth rule d ≡ given n
 unfolding coming_twentieth is_near far_enough then
 coming_is rule d n e h = rw (h, e) refl
 
 module _ (q : Request) (closed : List ℕ) (room a b n : ℕ) (on : on_twentieths q.rule ≡ true) (next : coming_twentieth q.rule q.effective.day ≡ given n) (off : n ≡ q.effective.day → ⊥) where
-  seconds : (first : ℕ) → first ≡ 0 → Alike (Opens a b) (second first q closed room (onto a 1 nothing)) (second first q closed room (onto b 1 nothing))
+  pub seconds : (first : ℕ) → first ≡ 0 → Alike (Opens a b) (second first q closed room (onto a 1 nothing)) (second first q closed room (onto b 1 nothing))
   unfolding second put_twentieth put_coming then
   seconds zero e = by (on_twentieths q.rule) on
     where
@@ -215,81 +213,3 @@ module _ (q : Request) (closed : List ℕ) (room a b n : ℕ) (on : on_twentieth
       by true i = rw next (put_in (eqb n q.effective.day) (ne_eqb n q.effective.day off))
       by false i = absurd (false≢true i)
   seconds (suc k) e = let bad : ⊥ = omega arith in absurd bad
-
--- ---- 3: an accepted request under CDS or CDS2015 whose two previous twentieths differ
-module _ (q : Request) (closed : List ℕ) (dates flags : ℕ) (ok : first_row (input_rows q closed dates flags) ≡ 0) (credit : is_credit (rule_in_force q) ≡ true) (a b : ℕ) (ours : previous_twentieth q.rule q.effective.day ≡ given a) (rusts : rust_previous q.rule q.effective.day ≡ given b) (differ : a ≡ b → ⊥) where
-  effective_in : in_book q.effective.day ≡ true
-  effective_in = (passed q closed dates flags ok).effective
-
-  asked : rule_in_force q ≡ q.rule
-  unfolding rule_in_force
-  asked = in_force (is_none q.tenor.length) q.rule credit
-
-  rule_credit : is_credit q.rule ≡ true
-  rule_credit = sym (ap is_credit asked) ∙ credit
-
-  far : Far q.effective.day a × Far q.effective.day b
-  far =
-      let w = apart q.rule q.effective.day effective_in (λ e. differ (one_given _ a b ours (sym e ∙ rusts))) in
-      let x = one_given _ w.0.value a w.0.is ours in
-      let y = one_given _ w.1.value b w.1.is rusts in
-      (omega (arith, x, w.0.has), omega (arith, y, w.1.has))
-
-  -- no date is put before either of them
-  pub none_before : (room : ℕ) (l : Lists) → opening q closed room ≡ given l → l ≡ onto a 1 nothing
-  unfolding opening opening_by then
-  none_before room l h = by (is_credit q.rule) rule_credit h
-    where
-      by : (c : Bool) → c ≡ true → opening_by c q closed room ≡ given l → l ≡ onto a 1 nothing
-      by true e i = alone q closed room a l far.0 (rw ours at i)
-      by false e i = absurd (false≢true e)
-
-  pub none_before_rusts : (room : ℕ) (l : Lists) → rust_opening (is_credit q.rule) q closed room ≡ given l → l ≡ onto b 1 nothing
-  unfolding rust_opening then
-  none_before_rusts room l h = by (is_credit q.rule) rule_credit h
-    where
-      by : (c : Bool) → c ≡ true → rust_opening c q closed room ≡ given l → l ≡ onto b 1 nothing
-      by true e i = alone q closed room b l far.1 (rw rusts at i)
-      by false e i = absurd (false≢true e)
-
-  no_first : q.first.day ≡ 0
-  unfolding is_given
-  no_first = eqb-true q.first.day 0 (not-false _ (sym ((credit_is (rule_in_force q) credit).anchors q.first.day) ∙ (accepted q closed dates flags ok).first_allowed))
-
-  -- the next twentieth is not the effective date, which is none of the grid: the previous one lies before it
-  next_off : Gives (λ n. n ≡ q.effective.day → ⊥) (coming_twentieth q.rule q.effective.day)
-  next_off =
-      let p = previous_from q.rule q.effective.day effective_in in
-      let n = next_from_lem q.rule q.effective.day effective_in in
-      let e = one_given _ p.value a p.is ours in
-      record {
-        value = n.value;
-        is = coming_is q.rule q.effective.day n.value (sym (ap is_old_cds asked) ∙ (credit_is (rule_in_force q) credit).not_old) n.is;
-        has = λ i. omega (arith, far.0, e, i, p.has.greatest n.value n.has.grid (omega arith));
-      }
-
-  opened_alike : (room : ℕ) → Alike (Opens a b) (second q.first.day q closed room (onto a 1 nothing)) (second q.first.day q closed room (onto b 1 nothing))
-  opened_alike room =
-      let n = next_off in
-      seconds q closed room a b n.value (sym (ap on_twentieths asked) ∙ (credit_is (rule_in_force q) credit).twentieths) n.is n.has q.first.day no_first
-
-  forward_differs : (room : ℕ) (m n : Made) → forward q closed room ≡ given m → rust_forward q closed room ≡ given n → Behind a b m n
-  unfolding forward opened rust_forward
-  forward_differs room m n h i =
-      let o = then_stepped _ _ m h in
-      let p = then_stepped _ _ n i in
-      let l = then_stepped (opening q closed room) _ o.value o.from in
-      let k = then_stepped (rust_opening (is_credit q.rule) q closed room) _ p.value p.from in
-      let x = ap (second q.first.day q closed room) (sym (none_before room l.value l.from)) ∙ l.to in
-      let y = ap (second q.first.day q closed room) (sym (none_before_rusts room k.value k.from)) ∙ k.to in
-      both_gave m n (forward_alike a b room q closed o.value p.value (both_gave o.value p.value (opened_alike room) x y)) o.to p.to
-
-  -- where both generate, the first date is a here and b there, and all the rest is the same
-  pub only_first_differs : (room : ℕ) (m n : Made) → generate q closed room ≡ given m → rust_generate q closed room ≡ given n → Behind a b m n
-  unfolding generate generate_by rust_generate rust_generate_by
-  only_first_differs room m n h i = by (is_zero (rule_in_force q)) (is_backward (rule_in_force q)) (credit_is (rule_in_force q) credit).not_zero (credit_is (rule_in_force q) credit).not_backward h i
-    where
-      by : (z c : Bool) → z ≡ false → c ≡ false → generate_by z c q closed room ≡ given m → rust_generate_by z c q closed room ≡ given n → Behind a b m n
-      by true c e f h i = absurd (false≢true (sym e))
-      by false true e f h i = absurd (false≢true (sym f))
-      by false false e f h i = forward_differs room m n h i

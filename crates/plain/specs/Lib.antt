@@ -5,8 +5,6 @@ pub mod Laws
 pub mod Demand
 pub mod Forward
 pub mod Agree
-pub mod AgreeExample
-pub mod Example
 pub mod Sums
 pub mod Points
 pub mod Pairs

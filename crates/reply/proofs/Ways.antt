@@ -17,8 +17,8 @@ use Rattle.steps.specs.Entries.{Entries, entries_of, paid_of, unadjusted_after, 
 use Rattle.steps.specs.Laws.Counts.{build_flagged}
 use Rattle.steps.specs.Laws.Tries.{build_tries}
 use Rattle.steps.specs.Laws.Entries.{its_schedule, as_many_unadjusted}
-use Rattle.outcomes.specs.Refusals.{never_zero}
-use Rattle.outcomes.specs.Uneven.{refused_as_before}
+use Rattle.outcomes.proofs.Refusals.{never_zero}
+use Rattle.outcomes.proofs.Uneven.{refused_as_before}
 use Rattle.request.specs.declared.Decoded.{Decoded}
 use Rattle.request.specs.declared.Decoded.TheVariants as decoded-is
 use Rattle.request.specs.Format.{Asked, decoded}

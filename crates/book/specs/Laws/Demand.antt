@@ -13,11 +13,11 @@ use Rattle.steps.specs.declared.Request.{Request}
 use Rattle.steps.specs.Build.{Schedule, over, dates_after, flags_after}
 use Rattle.steps.specs.Entries.{Entries, entries_of, paid_of, unadjusted_after}
 use Rattle.steps.specs.Laws.Entries.{NothingAdjusts, twice}
-use Rattle.outcomes.specs.Uneven.{refused_as_before}
+use Rattle.outcomes.proofs.Uneven.{refused_as_before}
 use Rattle.request.specs.Format.{Asked, decoded}
 use Rattle.plain.specs.Demand.{Plain, Passes, Owed, Most, TooLong, Flagged, Accepted, tenor_count}
-use Rattle.plain.specs.Laws.Memory.{outcome}
-use Rattle.plain.specs.Laws.Proved.{demand_3}
+use Rattle.plain.proofs.Laws.Memory.{outcome}
+use Rattle.plain.proofs.Laws.Proved.{demand_3}
 use Rattle.book.specs.Book.{call_of, call_in, count_of, four_numbers, Lists, booked}
 use Rattle.book.specs.Places.{takes}
 use Rattle.book.specs.Laws.Turns.{flags_in, Counted, call_counted, Long}

@@ -21,7 +21,7 @@ use Rattle.plain.specs.Demand.{tenor_length, tenors_before, count_of, tenor_coun
 use Rattle.plain.specs.Forward.{tenors_after}
 use Rattle.plain.specs.Most.{day_or, months_between, most_by, most_on_by}
 use Rattle.plain.specs.Laws.Tenor.{candidate_is}
-use Rattle.plain.specs.Laws.Added.{candidate_on}
+use Rattle.plain.proofs.Laws.Added.{candidate_on}
 use Rattle.coming.specs.Coming.{Comes, comes, on_or, comes_forward, flag_by, tenors_kept, comes_backward}
 
 -- from a back to b, or on to b

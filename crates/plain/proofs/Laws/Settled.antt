@@ -9,7 +9,7 @@ use Rattle.steps.specs.Build.{Schedule}
 use Rattle.plain.specs.Listed.{one_list}
 use Rattle.plain.specs.Demand.{Plain, Passes, Owed, FirstFlag, regular, irregular, Flagged, tenor_count, Most, TooLong, Accepted, Kept}
 use Rattle.plain.specs.Laws.Walked.{most_only}
-use Rattle.plain.specs.Laws.Proved.{one_of, over_is}
+use Rattle.plain.proofs.Laws.Proved.{one_of, over_is}
 
 pub same_first : (q : Request) (a b : ℕ) → FirstFlag q a → FirstFlag q b → a ≡ b
 same_first q a b (regular e l) (regular e' l') = e ∙ sym e'

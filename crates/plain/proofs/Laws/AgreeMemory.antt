@@ -18,8 +18,8 @@ use Rattle.steps.specs.Laws.Entries.{NothingAdjusts, twice, with_its_dates}
 use Rattle.steps.specs.Laws.Farthest.{same_dates}
 use Rattle.plain.specs.Forward.{under}
 use Rattle.plain.specs.Agree.{Whole, EarlyDay, SameDay, Evenly, Direction, forward, backward, SameButRule, AgreeInMemory, EvenlyWritten, BothEvenlyInMemory}
-use Rattle.plain.specs.Laws.Memory.{tenor_under_lem, outcome, kept_of, untouched}
-use Rattle.plain.specs.Laws.AgreeProved.{rule_of_lem, early_same, both_agree_wider, both_evenly_wider}
+use Rattle.plain.proofs.Laws.Memory.{tenor_under_lem, outcome, kept_of, untouched}
+use Rattle.plain.proofs.Laws.AgreeProved.{rule_of_lem, early_same, both_agree_wider, both_evenly_wider}
 
 module _ (q : Request) (k : ℕ) (w : Whole q k) where
   tenor_of_lem : (rule : Rule) → Direction rule → tenor_in_force (under rule q) ≡ q.tenor

@@ -3,7 +3,7 @@
 -- list and lent length.
 -- Assumes nothing.
 use Rattle.std.specs.Prelude.{ℕ, ◌+◌, ◌≤◌, ◌≡◌, ◌⊎◌, Bool, true, false, List}
-use Rattle.std.proofs.Common.{sym, ap, ◌∙◌, inl, inr, ⊎_elim, arith}
+use Rattle.std.proofs.Common.{sym, ap, ◌∙◌, inl, inr, arith}
 use Rattle.std.proofs.lemmas.Bool.{false≢true}
 use Rattle.refusal.specs.Answer.{refused, BOOK, CLOSED, ROOM, COLLAPSED}
 use Rattle.calendar.specs.declared.Convention.TheVariants.{Unadjusted}
@@ -14,9 +14,9 @@ use Rattle.steps.specs.Generate.{Lists, last_try, candidates}
 use Rattle.steps.specs.Build.{build_of}
 use Rattle.outcomes.specs.Late.{Late}
 use Rattle.outcomes.specs.Searches.{Searches, for_convention, for_terminal, for_month_end, for_first_date, StepsNoOpenDays, no_first, backward, not_days}
-use Rattle.outcomes.specs.Laws.Bound.{Enters, candidates_in}
-use Rattle.outcomes.specs.Laws.Bound as bound
-use Rattle.outcomes.specs.Laws.Rows.{of_checks, Reason, early, late, reason, late_number, late_closed}
+use Rattle.outcomes.proofs.Laws.Bound.{Enters, candidates_in}
+use Rattle.outcomes.proofs.Laws.Bound as bound
+use Rattle.outcomes.proofs.Laws.Rows.{of_checks, Reason, early, late, reason, late_number, late_closed}
 use Rattle.outcomes.specs.NoLimit as room
 
 module _ (q : Request) (closed : List ℕ) where
@@ -38,7 +38,11 @@ module _ (q : Request) (closed : List ℕ) where
         by (late e l) = inr (late_number l)
 
     pub never_zero : build_of q closed dates flags ≡ refused 0 → ⊥
-    never_zero h = ⊎_elim (λ (a : of_checks 0 ≡ true). false≢true a) (λ (l : (CLOSED ≤ 0) × (0 ≤ COLLAPSED)). omega (arith, l.0)) (its_numbers 0 h)
+    never_zero h = by (reason q closed dates flags 0 h)
+      where
+        by : Reason q closed dates flags 0 → ⊥
+        by (early e a) = false≢true a
+        by (late e l) = omega (arith, (late_number l).0)
 
     -- ---- 2: a request that passes the checks is never refused 2
     pub never_outside : NoneHolds (input_rows q closed dates flags) → build_of q closed dates flags ≡ refused BOOK → ⊥

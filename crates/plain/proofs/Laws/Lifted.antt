@@ -15,7 +15,7 @@ use Rattle.plain.specs.Demand.{Plain, Passes, tenors_before, LiesSo, Owed, First
 use Rattle.plain.specs.Laws.Falling.{GeneratedBack}
 use Rattle.plain.specs.Laws.Finished.{finished_same}
 use Rattle.plain.specs.Laws.Walked.{rule_is, generated}
-use Rattle.plain.specs.Laws.Proved.{owed_span}
+use Rattle.plain.proofs.Laws.Proved.{owed_span}
 
 pub record KeptIn (q : Request) (room : ℕ) (ds : List ℕ) (m : ℕ) (o : Answer Schedule) : Type 0 where
   pub refused_exactly : (o ≡ refused ROOM) ↔ (room < length ds)

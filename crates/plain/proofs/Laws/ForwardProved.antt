@@ -14,10 +14,10 @@ use Rattle.outcomes.specs.Laws.Span.{le_or_lt, InSpan}
 use Rattle.plain.specs.Listed.{one_list}
 use Rattle.plain.specs.Demand.{Passes, tenor_length, tenor_count, TooLong}
 use Rattle.plain.specs.Forward.{PlainForward, DueOn, effective, between, termination, tenors_after, LiesAfter, OwedOn, LastFlag, regular, irregular, FlaggedOn, MostOn, AcceptedOn, KeptOn, DemandOn, StepsOn, OwedOnOnce, MostOnOnce, ChecksOn}
-use Rattle.plain.specs.Laws.Rising.{GeneratedOn}
-use Rattle.plain.specs.Laws.Added.{span_on}
-use Rattle.plain.specs.Laws.Onward.{finished_on, checks_on, most_is, most_only, generated_on}
-use Rattle.plain.specs.Laws.Proved.{one_of, over_is}
+use Rattle.plain.proofs.Laws.Rising.{GeneratedOn}
+use Rattle.plain.proofs.Laws.Added.{span_on}
+use Rattle.plain.proofs.Laws.Onward.{finished_on, checks_on, most_is, most_only, generated_on}
+use Rattle.plain.proofs.Laws.Proved.{one_of, over_is}
 
 module _ (q : Request) (closed : List ℕ) (dates flags : ℕ) (p : PlainForward q) (c : Passes q closed dates flags) where
   owed_span : (d : ℕ) → DueOn (tenors_after q) q.effective.day q.termination.day d → InSpan d

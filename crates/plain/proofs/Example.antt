@@ -16,7 +16,7 @@ use Rattle.plain.specs.Demand.{Plain, Passes, taken, Most}
 use Rattle.plain.specs.Laws.Falling.{due_list}
 use Rattle.plain.specs.Laws.Walked.{owed_list}
 use Rattle.plain.specs.Laws.Mosts.{most_if}
-use Rattle.plain.specs.Laws.Formula.{given_by, refused_by}
+use Rattle.plain.proofs.Laws.Formula.{given_by, refused_by}
 
 -- Backward by months, always open, Unadjusted, with no anchors and end of month off
 abbrev monthly : ℕ → ℕ → ℕ → Request

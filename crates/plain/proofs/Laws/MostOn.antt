@@ -14,7 +14,7 @@ use Rattle.outcomes.specs.Laws.Span.{le_or_lt, since}
 use Rattle.plain.specs.Demand.{counted_in}
 use Rattle.plain.specs.Forward.{MostAdded}
 use Rattle.plain.specs.Most.{day_or, months_between, most_on_by}
-use Rattle.plain.specs.Laws.Added.{span_on, days_at, days_are, months_at, months_are, months_zero}
+use Rattle.plain.proofs.Laws.Added.{span_on, days_at, days_are, months_at, months_are, months_zero}
 
 module _ (e x : ℕ) (from : in_book e ≡ true) (order : e ≤ x) (to : in_book x ≡ true) where
   by_days : MostAdded (λ y. shifted e false y Days) x (x - e)

@@ -22,12 +22,12 @@ use Rattle.plain.specs.Laws.Falling.{due_list, Falls, GeneratedBack}
 use Rattle.plain.specs.Laws.Count.{line_later, counted}
 use Rattle.plain.specs.Laws.Tenor.{counts_are}
 use Rattle.plain.specs.Laws.Walked.{some_units, line, tenors_fall, generated}
-use Rattle.plain.specs.Laws.Proved.{owed_once, most_once}
-use Rattle.plain.specs.Laws.Shape.{not_after}
+use Rattle.plain.proofs.Laws.Proved.{owed_once, most_once}
+use Rattle.plain.proofs.Laws.Shape.{not_after}
 use Rattle.plain.specs.Laws.Mosts.{most_by_lem}
-use Rattle.plain.specs.Laws.Formula.{count_is}
+use Rattle.plain.proofs.Laws.Formula.{count_is}
 use Rattle.outcomes.specs.NoLimit.{NoLimit}
-use Rattle.plain.specs.Laws.Lifted.{no_limit_back}
+use Rattle.plain.proofs.Laws.Lifted.{no_limit_back}
 use Rattle.coming.specs.Coming.{begins, comes, none_comes, between_or, flag_by, comes_backward}
 use Rattle.coming.specs.Shows.{Shows, at_first, at_later, at_none, by_cases}
 

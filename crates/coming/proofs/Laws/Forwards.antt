@@ -16,15 +16,15 @@ use Rattle.plain.specs.Listed.{one_list, at_in}
 use Rattle.plain.specs.Demand.{Passes, tenor_length, tenor_count}
 use Rattle.plain.specs.Most.{day_or}
 use Rattle.plain.specs.Forward.{PlainForward, DueOn, effective, between, termination, tenors_after, LiesAfter, OwedOn, LastFlag, regular, irregular, added, MostAdded, MostOn, AcceptedOn}
-use Rattle.plain.specs.Laws.Rising.{Rises, GeneratedOn}
-use Rattle.plain.specs.Laws.Mirror.{Climb, counted_on}
+use Rattle.plain.proofs.Laws.Rising.{Rises, GeneratedOn}
+use Rattle.plain.proofs.Laws.Mirror.{Climb, counted_on}
 use Rattle.outcomes.specs.NoLimit.{NoLimit}
-use Rattle.plain.specs.Laws.MostOn.{most_on_by_lem}
-use Rattle.plain.specs.Laws.Added.{counts_on}
+use Rattle.plain.proofs.Laws.MostOn.{most_on_by_lem}
+use Rattle.plain.proofs.Laws.Added.{counts_on}
 use Rattle.coming.specs.Coming.{begins, comes, none_comes, between_or, on_or, comes_forward}
 use Rattle.coming.specs.Shows.{Shows, at_first, at_later, at_none, by_cases}
-use Rattle.plain.specs.Laws.Onward.{some_units, climb, tenors_rise, generated_on}
-use Rattle.plain.specs.Laws.ForwardProved.{no_limit_on, owed_on_once, most_on_once}
+use Rattle.plain.proofs.Laws.Onward.{some_units, climb, tenors_rise, generated_on}
+use Rattle.plain.proofs.Laws.ForwardProved.{no_limit_on, owed_on_once, most_on_once}
 
 flag_in : (n last i : ℕ) → i < n → get_or (replicate n 1 ++ (last ∷ [])) i 0 ≡ 1
 flag_in zero last i h = let bad : ⊥ = omega arith in absurd bad

@@ -10,7 +10,7 @@ use Rattle.plain.specs.Demand.{MostOf}
 use Rattle.plain.specs.Most.{day_or}
 use Rattle.plain.specs.Laws.Falling.{Falls}
 use Rattle.plain.specs.Forward.{MostAdded}
-use Rattle.plain.specs.Laws.Rising.{Rises}
+use Rattle.plain.proofs.Laws.Rising.{Rises}
 use Rattle.plain.specs.Laws.Count.{Line, some_most, one_most, counted}
 
 unfoldable mirrored : Answer ℕ → Answer ℕ

@@ -29,16 +29,16 @@ use Rattle.plain.specs.Agree.{Whole, InMonths, EarlyDay, SameDay, BothAgree, Eve
 use Rattle.plain.specs.Laws.Chain.{ones, chain, chain_length, chain_at}
 use Rattle.plain.specs.Most.{day_or}
 use Rattle.plain.specs.Laws.Falling.{due_list}
-use Rattle.plain.specs.Laws.Rising.{one_more, no_rest, Rises, GeneratedOn}
-use Rattle.plain.specs.Laws.Added.{days_at, months_at, counts_on, climb_of}
+use Rattle.plain.proofs.Laws.Rising.{one_more, no_rest, Rises, GeneratedOn}
+use Rattle.plain.proofs.Laws.Added.{days_at, months_at, counts_on, climb_of}
 use Rattle.plain.specs.Laws.Tenor.{positive_size, some_count, counts_are}
 use Rattle.plain.specs.Laws.Walked.{line, owed_list}
 use Rattle.plain.specs.Laws.Checks.{passed}
-use Rattle.plain.specs.Laws.Onward.{passes_under, climb, plain_back, tenors_rise, generated_on}
-use Rattle.plain.specs.Laws.Proved.{demand_3, owed_once, most_once}
-use Rattle.plain.specs.Laws.ForwardProved.{demand_on}
-use Rattle.plain.specs.Laws.Settled.{told}
-use Rattle.plain.specs.Laws.Formula.{owed_list_lem, count_is}
+use Rattle.plain.proofs.Laws.Onward.{passes_under, climb, plain_back, tenors_rise, generated_on}
+use Rattle.plain.proofs.Laws.Proved.{demand_3, owed_once, most_once}
+use Rattle.plain.proofs.Laws.ForwardProved.{demand_on}
+use Rattle.plain.proofs.Laws.Settled.{told}
+use Rattle.plain.proofs.Laws.Formula.{owed_list_lem, count_is}
 
 -- ---- the day of the month
 -- that of so many months on or back is the same, or the last of a month of 28 days or more

@@ -28,11 +28,11 @@ use Rattle.plain.specs.Listed.{◌∈◌, Ascending}
 use Rattle.plain.specs.Demand.{Plain, tenor_length, tenor_count, Passes}
 use Rattle.plain.specs.Laws.Turns.{stays}
 use Rattle.plain.specs.Forward.{under, PlainForward, tenors_after, added, MostOn}
-use Rattle.plain.specs.Laws.Rising.{from_effective, Rises, GeneratedOn, rising}
-use Rattle.plain.specs.Laws.Mirror.{Climb, some_added, one_added, counted_on}
+use Rattle.plain.proofs.Laws.Rising.{from_effective, Rises, GeneratedOn, rising}
+use Rattle.plain.proofs.Laws.Mirror.{Climb, some_added, one_added, counted_on}
 use Rattle.plain.specs.Laws.Finished.{first_same, last_same, middle_same, merged_same}
 use Rattle.plain.specs.Laws.Tenor.{positive_size, some_count}
-use Rattle.plain.specs.Laws.Added.{candidate_on, counts_on, climb_of}
+use Rattle.plain.proofs.Laws.Added.{candidate_on, counts_on, climb_of}
 use Rattle.plain.specs.Laws.Walked.{rule_is}
 use Rattle.plain.specs.Laws.Checks.{checks_are}
 

@@ -11,8 +11,8 @@ use Rattle.plain.specs.Listed.{one_list}
 use Rattle.plain.specs.Demand.{Plain, Passes, tenors_before, Owed, FirstFlag, Flagged, tenor_count, Most, TooLong, Accepted, Kept}
 use Rattle.plain.specs.Laws.Falling.{GeneratedBack}
 use Rattle.plain.specs.Laws.Walked.{owed_list, generated}
-use Rattle.plain.specs.Laws.Proved.{first_is, demand_3}
-use Rattle.plain.specs.Laws.Settled.{same_first}
+use Rattle.plain.proofs.Laws.Proved.{first_is, demand_3}
+use Rattle.plain.proofs.Laws.Settled.{same_first}
 
 module _ (q : Request) (closed : List ℕ) (dates flags : ℕ) (p : Plain q) (c : Passes q closed dates flags) (m : ℕ) (w : Most q m) where
   abbrev g : GeneratedBack q.effective.day q.termination.day (min dates 4096) (tenors_before q) (m / tenor_count q) (generate q closed (min dates 4096))

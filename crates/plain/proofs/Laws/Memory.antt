@@ -18,9 +18,9 @@ use Rattle.steps.specs.Laws.Farthest.{same_dates}
 use Rattle.plain.specs.Demand.{Plain, Accepted, WrittenOut, LeftAlone, Demand3InMemory}
 use Rattle.plain.specs.Forward.{PlainForward, AcceptedOn, WrittenOn, DemandOnInMemory}
 use Rattle.plain.specs.Laws.Walked.{rule_is}
-use Rattle.plain.specs.Laws.Onward.{rule_on}
-use Rattle.plain.specs.Laws.Proved.{demand_3}
-use Rattle.plain.specs.Laws.ForwardProved.{demand_on}
+use Rattle.plain.proofs.Laws.Onward.{rule_on}
+use Rattle.plain.proofs.Laws.Proved.{demand_3}
+use Rattle.plain.proofs.Laws.ForwardProved.{demand_on}
 
 pub tenor_under_lem : (q : Request) (rule : Rule) → rule_in_force q ≡ rule → tenor_in_force q ≡ tenor_under (is_zero rule) q.tenor
 unfolding tenor_in_force

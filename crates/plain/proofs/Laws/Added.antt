@@ -19,7 +19,7 @@ use Rattle.steps.specs.Candidates.{seed_of, candidate_by, candidate}
 use Rattle.outcomes.specs.Laws.Span.{InSpan, span_is, day_span, month_span, month_of_lem, month_there, month_zero, since}
 use Rattle.plain.specs.Demand.{counted_in, count_of}
 use Rattle.plain.specs.Most.{day_or}
-use Rattle.plain.specs.Laws.Mirror.{Climb}
+use Rattle.plain.proofs.Laws.Mirror.{Climb}
 
 pub span_on : (e x : ℕ) (u : TimeUnit) (d : ℕ) → shifted e false x u ≡ given d → InSpan d
 unfolding shifted shift_days shift_months

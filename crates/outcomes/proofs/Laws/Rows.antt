@@ -13,7 +13,7 @@ use Rattle.steps.specs.Build.{steps_of, admitted, build_of}
 use Rattle.outcomes.specs.Late.{Late, by_search, by_room, by_merge, Fine, Any, gives, steps}
 use Rattle.outcomes.specs.Searches.{Searches, for_convention, for_terminal, for_month_end}
 use Rattle.outcomes.specs.Laws.Finished.{finish_fine}
-use Rattle.outcomes.specs.Laws.Generating.{Passed, passed, generate_fine}
+use Rattle.outcomes.proofs.Laws.Generating.{Passed, passed, generate_fine}
 use Rattle.outcomes.specs.NoLimit.{steps_in, steps_cut}
 
 -- ---- a test that each number of a table passes is passed by that of the first row that holds

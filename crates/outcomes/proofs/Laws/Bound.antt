@@ -12,7 +12,7 @@ use Rattle.steps.specs.Candidates.{Turn, past, skip, keep, seed_of, turn_of}
 use Rattle.steps.specs.Generate.{Lists, Walk, Opened, newest, put, on_turn, last_try, walk, candidates, anchor_or, begun, back_seed, opened}
 use Rattle.outcomes.specs.Late.{Late, by_search, by_room, by_merge, Fine}
 use Rattle.outcomes.specs.Searches.{Searches}
-use Rattle.outcomes.specs.Laws.Generating.{passed, GoodWalk, begun_fine, back_loop_fine, opened_fine, forth_loop_fine, pace_fine}
+use Rattle.outcomes.proofs.Laws.Generating.{passed, GoodWalk, begun_fine, back_loop_fine, opened_fine, forth_loop_fine, pace_fine}
 
 -- ---- any walk that does not end in 2 is the same with more candidates
 abbrev More : (Lists → Answer Walk) → (Lists → Answer Walk) → Type 0

@@ -1,0 +1,2 @@
+pub mod OpenDays
+pub mod Cases

@@ -1,0 +1,5 @@
+pub mod Laws
+pub mod Grid
+pub mod Refusals
+pub mod Uneven
+pub mod RustStep
