@@ -1,4 +1,4 @@
-use Rattle.std.proofs.Common.{arith, refl, ◌∙◌}
+use Rattle.std.proofs.Common.{arith, refl, rules, ◌∙◌}
 use Rattle.calendar.specs.Inner.Always.{on_as}
 use Rattle.working.proofs.Walking.{going_start, walk_from, walk_full, walk_keep, walk_out, walk_past, walk_skip, walk_stop}
 use Rattle.working.proofs.walks.turns.Goals as goal
@@ -19,7 +19,7 @@ pub returns-in-Refused : goal.returns-in-Refused
 returns-in-Refused c = record { run = λ b. walk_from _ _ _ _ (on_as _ _ _ _ c.convention_on.ensures) _ _ _ _ b _ _ c.first_tip-first.ensures _ _ _ (λ p s. walk_full (c.loop-k.invariant.4 p s) c.loop-k-test.true _ c.try_candidate-t.ensures _ c.in-Keep.is _ _ c.put-put.ensures _ c.in-Refused.is _) }
 
 pub loop-k-preserved : goal.loop-k-preserved
-loop-k-preserved c = (omega (arith, c.loop-k-test.true), c.work-1.given ∙ c.loop-k.invariant.1, c.paid-in-Ready-1.given ∙ c.loop-k.invariant.2, c.marks-1.given ∙ c.loop-k.invariant.3, λ b s. walk_keep (c.loop-k.invariant.4 b s) c.loop-k-test.true _ c.try_candidate-t.ensures _ c.in-Keep.is _ _ c.put-put.ensures _ c.in-Ready.is _ c.pay.ensures)
+loop-k-preserved c = (omega (arith, c.loop-k-test.true), (search rules) ∙ c.loop-k.invariant.1, (search rules) ∙ c.loop-k.invariant.2, (search rules) ∙ c.loop-k.invariant.3, λ b s. walk_keep (c.loop-k.invariant.4 b s) c.loop-k-test.true _ c.try_candidate-t.ensures _ c.in-Keep.is _ _ c.put-put.ensures _ c.in-Ready.is _ c.pay.ensures)
 
 pub returns : goal.returns
 returns c = record { run = λ b. walk_from _ _ _ _ (on_as _ _ _ _ c.convention_on.ensures) _ _ _ _ b _ _ c.first_tip-first.ensures _ _ _ (λ p s. walk_out (c.loop-k.invariant.4 p s) c.loop-k-test.false) }
