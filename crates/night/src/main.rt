@@ -5,13 +5,17 @@ ghost use Rattle.std.specs.Prelude.{◌≡◌, length};
 
 use book::Booked;
 use std::io;
-use std::io::{Read, Write};
+use std::io::Write;
 
-// So many bytes of standard input are read: one more than 64 requests of 65,535 bytes have, so that a longer book is refused.
-const INPUT: u64 = 4194369;
+// A byte more than 64 requests of 65,535 bytes have, so that a longer book is refused. Here and below the `ensures` gives only the
+// length, which lending an array as a slice needs.
+fn input_room() -> [u8; 4194369]
+    ensures { 4194369 ≡ length result }
+{
+    [0; 4194369]
+}
 
-// Room for 64 schedules of 4,096 dates, so that no request is refused for those before it. Here and below the `ensures` gives only
-// the length, which lending an array as a slice needs.
+// Room for 64 schedules of 4,096 dates, so that no request is refused for those before it.
 fn dates_room() -> [u32; 262144]
     ensures { 262144 ≡ length result }
 {
@@ -132,15 +136,15 @@ fn print_answers(
 }
 
 fn main(rt: HostRuntime) -> io::Result<()> {
-    let mut input = Vec::new(rt.alloc());
+    let mut input = input_room();
     let mut dates = dates_room();
     let mut flags = flags_room();
     let mut unadjusted = dates_room();
     let mut answers = answers_room();
     let mut text = text_room();
-    rt.reader().take(INPUT).read_to_end(&mut input)?;
+    let got = reading::fill(&mut rt.reader(), &mut input)?;
     match book::build(
-        &input,
+        &input[..got],
         &mut dates,
         &mut flags,
         &mut unadjusted,

@@ -5,7 +5,6 @@
 ghost use Rattle.std.specs.Prelude.{◌≡◌, length};
 
 use capi::builds::heronspan_build;
-use std::io::Read;
 use std::num::wrapping_add_u32;
 use std::{fs, io};
 use words::{field, same, same_flags, signed, small, word};
@@ -14,9 +13,6 @@ use words::{field, same, same_flags, signed, small, word};
 mod words;
 // Questions other than builds.
 mod questions;
-
-// So many bytes of the file are read, and none after them.
-const TEXT: u64 = 1048576;
 
 // How the records so far compare: the place of the next one, how many were asked, how many agreed, and the first that did
 // not, counted from 1 (0: none).
@@ -186,8 +182,6 @@ fn words_room() -> [u32; 196608]
 
 fn main(rt: HostRuntime) -> io::Result<()> {
     let mut words = words_room();
-    let mut text = Vec::new(rt.alloc());
-    fs::open(&rt, "answers")?.take(TEXT).read_to_end(&mut text)?;
-    words::read_numbers(&text, &mut words);
+    words::read_numbers(&mut fs::open(&rt, "answers")?, &mut words)?;
     print(&rt, replay(&words))
 }

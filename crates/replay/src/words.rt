@@ -1,4 +1,8 @@
 // The stored numbers, read by place.
+ghost use Rattle.std.specs.Prelude.{◌≡◌, length};
+
+use std::io;
+use std::io::Read;
 use std::num::wrapping_add_u32;
 
 fn is_digit(b: u8) -> bool {
@@ -57,14 +61,26 @@ fn read_piece(text: &[u8], before: Reading, words: &mut [u32]) -> Reading {
     r
 }
 
-// The numbers of a text, into the start of `words`.
-pub(crate) fn read_numbers(text: &[u8], words: &mut [u32]) {
-    let r = Reading {
+// Room for a piece of text. The `ensures` gives only the length, which lending an array as a slice needs.
+fn piece_room() -> [u8; 65536]
+    ensures { 65536 ≡ length result }
+{
+    [0; 65536]
+}
+
+// The numbers of a file of up to a million bytes, into the start of `words`.
+pub(crate) fn read_numbers(file: &mut impl Read, words: &mut [u32]) -> io::Result<()> {
+    let mut r = Reading {
         k: 0,
         value: 0,
         inside: false,
     };
-    read_piece(text, r, words);
+    let mut piece = piece_room();
+    for _ in 0..16 {
+        let size = reading::fill(file, &mut piece)?;
+        r = read_piece(&piece[..size], r, words);
+    }
+    Ok(())
 }
 
 // The number at a place, 0 beyond the end.
