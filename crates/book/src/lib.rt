@@ -14,7 +14,7 @@ mod calls;
 mod turns;
 
 // How many requests there were, refused ones among them; or the refusal of the whole call.
-#[derive(Drop)]
+#[derive(Clone, Copy)]
 pub enum Booked {
     Answered(u32),
     Refused(u8),

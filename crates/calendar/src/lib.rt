@@ -31,13 +31,13 @@ pub enum Convention {
     ModifiedPreceding,
 }
 
-#[derive(Drop)]
+#[derive(Clone, Copy)]
 pub enum Checked {
     Sound,
     Refused(u8),
 }
 
-#[derive(Drop)]
+#[derive(Clone, Copy)]
 pub enum Decided {
     Yes,
     No,
@@ -45,7 +45,7 @@ pub enum Decided {
 }
 
 // An adjusted date, and the days that it moved, later being positive.
-#[derive(Drop)]
+#[derive(Clone, Copy)]
 pub enum Moved {
     Day { date: Date, days: i32 },
     Refused(u8),

@@ -34,7 +34,7 @@ impl Near {
 }
 
 // What an adjustment answers, and what is then known for a day near the one that was adjusted.
-#[derive(Drop)]
+#[derive(Clone, Copy)]
 pub struct Told {
     pub moved: Moved,
     pub near: Near,

@@ -22,7 +22,7 @@ use working::candidates;
 mod counts;
 
 // What is answered of an asked day.
-#[derive(Drop)]
+#[derive(Clone, Copy)]
 pub enum Coming {
     // The effective date, which ends no period.
     Effective(Date),

@@ -20,25 +20,25 @@ pub mod requests;
 // Year fractions.
 pub mod years;
 
-#[derive(Drop)]
+#[derive(Clone, Copy)]
 pub enum NamedUnit {
     Is(Unit),
     Refused(u8),
 }
 
-#[derive(Drop)]
+#[derive(Clone, Copy)]
 pub enum NamedRule {
     Is(Rule),
     Refused(u8),
 }
 
-#[derive(Drop)]
+#[derive(Clone, Copy)]
 pub enum NamedConvention {
     Is(Convention),
     Refused(u8),
 }
 
-#[derive(Drop)]
+#[derive(Clone, Copy)]
 pub enum NamedFlag {
     Is(bool),
     Refused(u8),

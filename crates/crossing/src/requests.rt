@@ -7,7 +7,7 @@ use date::Date;
 use period::Period;
 use steps::Request;
 
-#[derive(Drop)]
+#[derive(Clone, Copy)]
 pub enum FromNumbers {
     Is(Request),
     Refused(u8),

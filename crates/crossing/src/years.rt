@@ -15,7 +15,7 @@ use date::Date;
 use fractions::reports::Reported;
 use fractions::{Basis, Fraction, Parted};
 
-#[derive(Drop)]
+#[derive(Clone, Copy)]
 pub enum NamedBasis {
     Is(Basis),
     Refused(u8),

@@ -5,7 +5,7 @@ ghost use Rattle.date.specs.Civil.{leap, row_of, month_length, gone, years_gone,
 use crate::{Fields, span};
 
 // A month and a day of it, both from 0.
-#[derive(Drop)]
+#[derive(Clone, Copy)]
 pub struct Place {
     pub month: u32,
     pub day: u32,

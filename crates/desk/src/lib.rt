@@ -20,7 +20,7 @@ mod adjusting;
 // The two lists as one.
 mod merging;
 // Where a run stands: in no list (0), the desk's (1) or the house's (2), from which place, and how many entries.
-#[derive(Drop)]
+#[derive(Clone, Copy)]
 pub struct Found {
     pub list: u8,
     pub start: usize,
@@ -36,7 +36,7 @@ impl Found {
 }
 
 // A place, or the number of a refusal.
-#[derive(Drop)]
+#[derive(Clone, Copy)]
 pub enum Told {
     Run(Found),
     Refused(u8),

@@ -36,7 +36,7 @@ pub enum Said {
     Is(Decoded),
 }
 
-#[derive(Drop)]
+#[derive(Clone, Copy)]
 pub struct Outcome {
     pub state: State,
     pub answer: Said,

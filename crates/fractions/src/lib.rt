@@ -19,19 +19,19 @@ pub enum Basis {
 }
 
 // Not reduced, so that numerators of one basis can be summed.
-#[derive(Drop)]
+#[derive(Clone, Copy)]
 pub struct Parts {
     pub numerator: u32,
     pub denominator: u32,
 }
 
-#[derive(Drop)]
+#[derive(Clone, Copy)]
 pub enum Parted {
     Parts(Parts),
     Refused(u8),
 }
 
-#[derive(Drop)]
+#[derive(Clone, Copy)]
 pub enum Fraction {
     Of(f64),
     Refused(u8),

@@ -7,14 +7,14 @@ ghost use Rattle.fractions.specs.Laws.Ends.{between};
 use crate::counts;
 use date::span;
 
-#[derive(Drop)]
+#[derive(Clone, Copy)]
 pub struct Sums {
     pub actual360: u32,
     pub actual365: u32,
     pub thirty360: u32,
 }
 
-#[derive(Drop)]
+#[derive(Clone, Copy)]
 pub enum Reported {
     Sums(Sums),
     Refused(u8),

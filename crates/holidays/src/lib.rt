@@ -34,7 +34,7 @@ fn is_size(n: usize) -> bool
 }
 
 // How many days stand at the start of the lent list; or the number of the refusal, and the line that it is for.
-#[derive(Drop)]
+#[derive(Clone, Copy)]
 pub enum Imported {
     Days(u32),
     Refused(u8, u32),

@@ -11,13 +11,13 @@ const LETTERS: [u8; 12] = [
 ];
 
 // The bytes of a code: a capital letter and a digit.
-#[derive(Drop)]
+#[derive(Clone, Copy)]
 pub struct Code {
     pub letter: u8,
     pub digit: u8,
 }
 
-#[derive(Drop)]
+#[derive(Clone, Copy)]
 pub enum Coded {
     Code(Code),
     Refused(u8),

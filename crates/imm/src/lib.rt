@@ -13,7 +13,7 @@ pub mod codes;
 // Day numbers.
 pub mod days;
 
-#[derive(Drop)]
+#[derive(Clone, Copy)]
 pub enum Tested {
     Is(bool),
     Refused(u8),

@@ -20,7 +20,7 @@ mod search;
 // Days that are not weekly closed.
 mod week;
 
-#[derive(Drop)]
+#[derive(Clone, Copy)]
 pub enum Changed {
     Done,
     Refused(u8),

@@ -23,7 +23,7 @@ pub(crate) enum Opening {
 }
 
 // How many dates there are then, what one of them is known to adjust to, and the seed.
-#[derive(Drop)]
+#[derive(Clone, Copy)]
 pub enum Opened {
     Ready { begin: Begin, seed: u32 },
     Refused(u8),

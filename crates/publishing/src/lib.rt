@@ -16,7 +16,7 @@ mod puts;
 mod events;
 
 // How many bytes stand at the start of the lent file; or the number of the refusal.
-#[derive(Drop)]
+#[derive(Clone, Copy)]
 pub enum Exported {
     Bytes(u32),
     Refused(u8),

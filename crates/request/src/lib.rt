@@ -34,7 +34,7 @@ pub enum Decoded {
 }
 
 // How many bytes were written; or the refusal.
-#[derive(Drop)]
+#[derive(Clone, Copy)]
 pub enum Encoded {
     Length(usize),
     Refused(u8),

@@ -12,7 +12,7 @@ use crate::{Adjusting, Filled, Tip, lists};
 use calendar::{moves, search};
 use date::{Date, Dated};
 
-#[derive(Drop)]
+#[derive(Clone, Copy)]
 pub enum Added {
     Ready(Tip),
     Refused(u8),

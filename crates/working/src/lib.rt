@@ -31,7 +31,7 @@ pub struct Course {
 }
 
 // How many dates there are before a loop, and what one of them is known to adjust to.
-#[derive(Drop)]
+#[derive(Clone, Copy)]
 pub struct Begin {
     pub n: usize,
     pub sure: Sure,
@@ -47,14 +47,14 @@ pub struct Tip {
 }
 
 // A loop that has ended: the tries, and the seed that its candidates were counted from.
-#[derive(Drop)]
+#[derive(Clone, Copy)]
 pub struct Round {
     pub tries: u32,
     pub seed: u32,
 }
 
 // How many dates there are after a date was put, or why it was not.
-#[derive(Drop)]
+#[derive(Clone, Copy)]
 pub enum Filled {
     Ready(usize),
     Refused(u8),
@@ -63,7 +63,7 @@ pub enum Filled {
 // A part of the working lists: n dates from a place on, and the flags between them from another place on; with the tries and the seed.
 // Those from the `known`-th up to the `beyond`-th have their paid dates beside them. `last` says what a day adjusts to by the
 // convention of the last date.
-#[derive(Drop)]
+#[derive(Clone, Copy)]
 pub struct Piece {
     pub from: usize,
     pub marked: usize,
@@ -76,7 +76,7 @@ pub struct Piece {
 }
 
 // What has been generated.
-#[derive(Drop)]
+#[derive(Clone, Copy)]
 pub enum Generated {
     Ready(Piece),
     Refused(u8),

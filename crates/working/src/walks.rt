@@ -17,7 +17,7 @@ use date::{Dated, span};
 use steps::Sure;
 
 // What the loop leaves, and the tries.
-#[derive(Drop)]
+#[derive(Clone, Copy)]
 pub enum Walked {
     Ready { tip: Tip, tries: u32 },
     Refused(u8),
