@@ -1,6 +1,7 @@
 #!/usr/bin/env python3
 """Holds docs/LAW.md to the sources: every definition and law that it names as `crate/File.name` or `crate/Laws/File.name` stands in that file
-of crates/crate/specs, every function that it names as `crate::name` is one of docs/STATEMENTS.md, and every definition file is named.
+of crates/crate/specs or, a law, of crates/crate/proofs; every function that it names as `crate::name` is one of docs/STATEMENTS.md; and every
+file of definitions is named, and of laws in proofs/.
 
     tools/law.py --check     says nothing, and ends with status 1 and a line for each name that is gone or file that is not named
 """
@@ -15,21 +16,30 @@ ROOT = os.path.dirname(os.path.dirname(os.path.abspath(__file__)))
 # Crates whose specs are terms of promises between our own functions alone.
 INNER = {"working", "opening", "forwards", "finish"}
 
+# Crates with laws in proofs/, beside files that serve the proofs of functions alone.
+IN_PROOFS = ("advancing", "outcomes", "plain", "coming")
+SERVING = {"Ways", "Counting"}
+
 
 def declared(crate, file, name):
-    path = os.path.join(ROOT, "crates", crate, "specs", f"{file}.antt")
-    if not os.path.exists(path):
-        return False
-    with open(path) as f:
-        return re.search(rf"^ *(?:(?:unfoldable|abbrev) )?(?:pub )?(?:record |data )?{re.escape(name)} ", f.read(), re.M) is not None
+    for part in ("specs", "proofs") if crate in IN_PROOFS else ("specs",):
+        path = os.path.join(ROOT, "crates", crate, part, f"{file}.antt")
+        if os.path.exists(path):
+            with open(path) as f:
+                if re.search(rf"^ *(?:(?:unfoldable|abbrev) )?(?:pub )?(?:record |data )?{re.escape(name)} ", f.read(), re.M):
+                    return True
+    return False
 
 
 def definition_files():
-    """The files that stand directly in a crate's specs: not its root, nor the roots of the folders there."""
-    for path in sorted(glob.glob(os.path.join(ROOT, "crates", "*", "specs", "*.antt"))):
-        crate, file = path.split(os.sep)[-3], os.path.basename(path)[:-len(".antt")]
-        if crate not in INNER and file != "Lib" and not os.path.isdir(path[:-len(".antt")]):
-            yield f"{crate}/{file}"
+    """The files that stand directly in a crate's specs, or with laws in its proofs: not its root, nor the roots of the folders there."""
+    for part in ("specs", "proofs"):
+        for path in sorted(glob.glob(os.path.join(ROOT, "crates", "*", part, "*.antt"))):
+            crate, file = path.split(os.sep)[-3], os.path.basename(path)[:-len(".antt")]
+            if crate in INNER or file == "Lib" or os.path.isdir(path[:-len(".antt")]):
+                continue
+            if part == "specs" or crate in IN_PROOFS and file not in SERVING:
+                yield f"{crate}/{file}"
 
 
 def main():
