@@ -75,7 +75,11 @@ def table():
         if crate != former:
             out.append(f"\n### {crate}\n\n| file | old name | new name |\n|---|---|---|\n")
             former, last = crate, None
+        if not now_in[crate][now] and file in now_in[crate][now.removesuffix("_lem")]:
+            now = now.removesuffix("_lem")  # put right by hand afterwards
         places = now_in[crate][now]
+        # a law that went from specs/ to proofs/ keeps its file's name there
+        places = sorted(places, key=lambda it: it != file.replace("specs/", "proofs/", 1))
         here = f"`{now}`" if file in places else f"`{now}`, in `{places[0]}`" if places else "gone"
         gone += not places
         if not places:

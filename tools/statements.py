@@ -22,8 +22,8 @@ HEAD = """# Statements
 
 Every public function, its statement, and the file that it stands in; made by tools/statements.py from the sources. `result` is
 the answer, `x.now` what is lent to be read, `x.old` and `x.new` what is lent to be written, before the call and after it. A name
-with a capital is a fact or a record of facts, any other a function; both are defined in the crate's specs/, or in those of a crate
-below it. What is ruled out is named by the edits of the crate's must-fail/ and wrong/ that make the answer wrong; each must be
+with a capital is a fact or a record of facts, any other a function; both are defined in the crate's specs/, in those of a crate
+below it, or in Rattle's library. What is ruled out is named by the edits of the crate's must-fail/ and wrong/ that make the answer wrong; each must be
 refused (tools/wrong).
 """
 
