@@ -249,8 +249,8 @@ fn run_of(s: State, left: usize) -> usize
 // The reader behind a run of so many bytes.
 fn run(s: State, n: usize) -> State
     requires n_le_due { n ≤ s.due }
-    requires n_bound { s.kept + n ≤ 20000 }
-    requires n_bound_2 { s.fed + n ≤ 20000 }
+    requires kept_fits { s.kept + n ≤ 20000 }
+    requires fed_fits { s.fed + n ≤ 20000 }
     ensures { result ≡ ran s n }
 {
     let k = n as u16;

@@ -61,7 +61,7 @@ pub(crate) fn open_part(
 pub(crate) fn may_end(file: &[u8], at: usize, line: u32, depth: usize, stack: &[u32]) -> bool
     requires before { Before file.now at line }
     requires depth_in_bounds { depth + 1 ≤ length stack.now }
-    requires depth_in_bounds_2 { get_or stack.now depth 0 ≤ length file.now }
+    requires name_in_file { get_or stack.now depth 0 ≤ length file.now }
     ensures { result ≡ may_end (ahead file.now at line) (parts_of file.now stack.now (depth + 1)) }
 {
     let place = stack[depth] as usize;

@@ -121,8 +121,8 @@ fn stop_turn(file: &[u8], name: Piece, st: State) -> Turn
 fn event_turn(file: &[u8], name: Piece, st: State) -> Turn
     requires reads_piece { ReadsPiece file.now st.at st.line false false name }
     requires start_bound { st.start ≤ 5000000 }
-    requires fact { name.number ≡ 35822894 → ⊥ }
-    requires fact_2 { name.number ≡ 38340 → ⊥ }
+    requires not_begin { name.number ≡ 35822894 → ⊥ }
+    requires not_end { name.number ≡ 38340 → ⊥ }
     ensures { EventTurns file.now st result }
 {
     let number = name.number;

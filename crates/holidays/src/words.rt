@@ -241,8 +241,8 @@ fn is_end(file: &[u8], at: usize) -> bool
 
 // Whether the words from two places to the ends of their lines are the same, in either case.
 pub(crate) fn same_words(file: &[u8], a: usize, b: usize) -> bool
-    requires before { Before file.now a 0 }
-    requires before_2 { Before file.now b 0 }
+    requires before_a { Before file.now a 0 }
+    requires before_b { Before file.now b 0 }
     ensures { result ≡ equal (uppers (ahead file.now a 0)) (uppers (ahead file.now b 0)) }
 {
     let mut i = a;

@@ -87,8 +87,8 @@ pub(crate) fn closed_count(bytes: &[u8], place: usize) -> usize
 
 // Writes the dates that start at a place over the start of the list.
 pub(crate) fn write_closed(bytes: &[u8], from: usize, count: usize, closed: &mut [u32])
-    requires count_in_bounds { from + count * 4 ≤ length bytes.now }
-    requires count_in_bounds_2 { count ≤ length closed.old }
+    requires dates_in_bytes { from + count * 4 ≤ length bytes.now }
+    requires dates_in_list { count ≤ length closed.old }
     ensures { closed.new ≡ over (dates_at bytes.now from count) closed.old }
 {
     let mut j = 0;
