@@ -12,8 +12,8 @@ import sys
 
 ROOT = os.path.dirname(os.path.dirname(os.path.abspath(__file__)))
 LIST = os.path.join("crates", "refusal", "specs", "Refusals.antt")
-# The width of the code's rows.
-WIDTH = 16
+# Cases of the code whose names show words that document 01's names write together.
+IN_CODE = {"MONTHEND": "MonthEnd", "NOTPLAIN": "NotPlain", "ICALKIND": "IcalKind", "SHORTEND": "ShortEnd"}
 # Names that the header has for something else: HERONSPAN_SAME is an order of two dates.
 IN_C = {"SAME": "SAME_DATE"}
 
@@ -21,7 +21,7 @@ IN_C = {"SAME": "SAME_DATE"}
 def refusals():
     """The rows of the list: number, name, meaning."""
     with open(os.path.join(ROOT, LIST)) as f:
-        found = re.findall(r'^ +(?:∷ )?refusal (\d+) "(\w+)"\s+"([^"]*)"$', f.read(), re.M)
+        found = re.findall(r'^ +(?:∷ )?row (\d+) "(\w+)"\s+"([^"]*)"$', f.read(), re.M)
     return [(int(number), name, meaning) for number, name, meaning in found]
 
 
@@ -37,13 +37,43 @@ def definitions(rows):
     return "".join(f"abbrev pub {name} : ℕ\n{name} = {number}\n\n" for number, name, _ in rows)
 
 
-def constants(rows):
-    return "\n".join(f"pub const {name}: u8 = {number};\n" for number, name, _ in rows)
+def case(name):
+    return IN_CODE.get(name, camel(name))
 
 
-def code(rows):
-    table = "".join(f'    NameRow({name}, {len(name)}, *b"{name:{WIDTH}}"),\n' for _, name, _ in rows)
-    return f"pub const ROWS: [NameRow; {len(rows)}] = [\n{table}];\n"
+def sentence(meaning):
+    return f"{meaning[0].upper()}{meaning[1:]}."
+
+
+def cases(rows):
+    return "".join(f"    /// {sentence(meaning)}\n    {case(name)} = {number},\n" for number, name, meaning in rows)
+
+
+def name_arms(rows):
+    return "".join(f'            Refusal::{case(name)} => "{name}",\n' for _, name, _ in rows)
+
+
+def number_arms(rows):
+    return "".join(f"            {number} => Ok(Refusal::{case(name)}),\n" for number, name, _ in rows)
+
+
+def imported(rows):
+    return "use Rattle.refusal.specs.declared.Refusal.TheVariants.{" + ", ".join(case(name) for _, name, _ in rows) + "}\n"
+
+
+def by_case(rows):
+    numbers = "".join(f"number_of {case(name)} = {number}\n" for number, name, _ in rows)
+    letters = "".join(f'letters_of {case(name)} = codes "{name}"\n' for _, name, _ in rows)
+    return f"abbrev pub number_of : Refusal → ℕ\n{numbers}\nabbrev pub letters_of : Refusal → List ℕ\n{letters}\n"
+
+
+def listed(rows):
+    first = case(rows[0][1])
+    return f"cases = {first} ∷ " + " ∷ ".join(case(name) for _, name, _ in rows) + " ∷ []\n"
+
+
+def each(law):
+    return lambda rows: "".join(f"{law} {case(name)} = refl\n" for _, name, _ in rows)
 
 
 def header(rows):
@@ -62,7 +92,7 @@ def python(rows):
 
 
 def variants(rows):
-    return "".join(f"    /// {meaning[0].upper()}{meaning[1:]}.\n    {camel(name)} = {number},\n" for number, name, meaning in rows)
+    return "".join(f"    /// {sentence(meaning)}\n    {camel(name)} = {number},\n" for number, name, meaning in rows)
 
 
 def table(rows):
@@ -72,8 +102,17 @@ def table(rows):
 
 PARTS = [
     ("crates/refusal/specs/Answer.antt", "numbers", definitions),
-    ("crates/refusal/src/lib.rt", "numbers", constants),
-    ("crates/refusal/src/lib.rt", "rows", code),
+    ("crates/refusal/specs/Refusals.antt", "imported", imported),
+    ("crates/refusal/specs/Refusals.antt", "cases", by_case),
+    ("crates/refusal/specs/Laws/Answers.antt", "imported", imported),
+    ("crates/refusal/specs/Laws/Answers.antt", "listed", listed),
+    ("crates/refusal/specs/Laws/Answers.antt", "placed", each("at_number")),
+    ("crates/refusal/specs/Laws/Searched.antt", "imported", imported),
+    ("crates/refusal/specs/Laws/Searched.antt", "is_listed", each("is_listed")),
+    ("crates/refusal/specs/Laws/Searched.antt", "is_named", each("is_named")),
+    ("crates/refusal/src/lib.rt", "cases", cases),
+    ("crates/refusal/src/lib.rt", "names", name_arms),
+    ("crates/refusal/src/lib.rt", "numbers", number_arms),
     ("include/heronspan.h", "numbers", header),
     ("include/heronspan.h", "names", names),
     ("bindings/python/heronspan/__init__.py", "numbers", python),
@@ -85,7 +124,7 @@ PARTS = [
 def main():
     rows, texts, faults = refusals(), {}, []
     with open(os.path.join(ROOT, LIST)) as f:
-        if not rows or len(rows) != len(re.findall(r"^ +(?:∷ )?refusal ", f.read(), re.M)):
+        if not rows or len(rows) != len(re.findall(r"^ +(?:∷ )?row ", f.read(), re.M)):
             sys.exit(f"{LIST}: a row is not a number, a name and a meaning")
     for path, part, make in PARTS:
         if path not in texts:
@@ -94,7 +133,8 @@ def main():
         marked = re.compile(rf"([^\n]*made by tools/refusals\.py: {part}\b[^\n]*\n)(.*?)([^\n]*made so far\b)", re.S)
         if len(marked.findall(texts[path])) != 1:
             sys.exit(f"{path}: no part '{part}', or more than one")
-        texts[path] = marked.sub(lambda found: found[1] + make(rows) + found[3], texts[path])
+        # Empty lines before the part's end are `rt fmt`'s.
+        texts[path] = marked.sub(lambda found: found[1] + make(rows).rstrip("\n") + re.search(r"\n*$", found[2])[0] + found[3], texts[path])
     for path, text in texts.items():
         with open(os.path.join(ROOT, path)) as f:
             if f.read() == text:

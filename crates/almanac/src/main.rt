@@ -2,8 +2,10 @@
 // each year. What it must print is made from another calendar (tools/almanac.py).
 #![tactic(auto)]
 
-use date::{Compared, Counted, Date, Dated, Numbered, Split, civil, span};
+use date::{Date, Fields, civil, span};
 use period::Unit;
+use refusal::Refusal;
+use std::cmp::Ordering;
 use std::io;
 
 // The digest of the values so far and one more.
@@ -12,41 +14,41 @@ fn fold(digest: u32, value: u32) -> u32 {
 }
 
 // An answer as one number: the day, or the refusal's number.
-fn day_of(answer: Dated) -> u32 {
+fn day_of(answer: Result<Date, Refusal>) -> u32 {
     match answer {
-        Dated::Day(d) => d.day,
-        Dated::Refused(n) => n as u32,
+        Ok(date) => date.day,
+        Err(refusal) => refusal.number() as u32,
     }
 }
 
-fn weekday_of(answer: Numbered) -> u32 {
+fn weekday_of(answer: Result<u32, Refusal>) -> u32 {
     match answer {
-        Numbered::Number(w) => w,
-        Numbered::Refused(n) => n as u32 + 100,
+        Ok(weekday) => weekday,
+        Err(refusal) => refusal.number() as u32 + 100,
     }
 }
 
-fn place_of(answer: Compared) -> u32 {
+fn place_of(answer: Result<Ordering, Refusal>) -> u32 {
     match answer {
-        Compared::Before => 11,
-        Compared::Same => 12,
-        Compared::After => 13,
-        Compared::Refused(n) => n as u32,
+        Ok(Ordering::Less) => 11,
+        Ok(Ordering::Equal) => 12,
+        Ok(Ordering::Greater) => 13,
+        Err(refusal) => refusal.number() as u32,
     }
 }
 
 // The first day of the book moved by the difference to a date, which is that date again.
-fn moved_back(answer: Counted) -> u32 {
+fn moved_back(answer: Result<i32, Refusal>) -> u32 {
     match answer {
-        Counted::Days(n) => day_of(Date::FIRST.advance(n, Unit::Days)),
-        Counted::Refused(n) => n as u32,
+        Ok(days) => day_of(Date::FIRST.advance(days, Unit::Days)),
+        Err(refusal) => refusal.number() as u32,
     }
 }
 
-fn fold_fields(digest: u32, answer: Split) -> u32 {
+fn fold_fields(digest: u32, answer: Result<Fields, Refusal>) -> u32 {
     match answer {
-        Split::Fields(f) => fold(fold(fold(digest, f.year), f.month), f.day),
-        Split::Refused(n) => fold(digest, n as u32),
+        Ok(f) => fold(fold(fold(digest, f.year), f.month), f.day),
+        Err(refusal) => fold(digest, refusal.number() as u32),
     }
 }
 

@@ -14,9 +14,10 @@ use Rattle.steps.specs.Rules.{pace_of}
 use Rattle.steps.specs.Candidates.{candidate, seed_of}
 use Rattle.steps.specs.Generate.{Lists, Made, nothing, put, has_room_in, put_penultimate, begun, backward_end}
 use Rattle.steps.specs.Finish.{same_flag}
-use Rattle.working.specs.declared.Filled.TheVariants as Filled-is
+use Rattle.std.specs.Prelude.{Ok, Err}
+use Rattle.refusal.specs.declared.Refusal.TheVariants.{Room}
 use Rattle.working.specs.Step.{Gives, gives, refuses, gives_as}
-use Rattle.working.specs.Part.{Work, Part, Placed, held, filled, Filling, fills}
+use Rattle.working.specs.Part.{Work, Part, Placed, held, Filling, fills}
 use Rattle.working.specs.Dates.{dates}
 use Rattle.working.specs.Held.{no_room, has_room}
 
@@ -27,13 +28,12 @@ there pace seed room l zero h = absurd (h refl)
 there pace seed room l (suc x) h = refl
 
 module _ (pace : Pace) (seed : Seed) {room n : ℕ} {w : Work} (p : Placed room n w) (anchor : ℕ) where
-  pub penultimate_absent : anchor ≡ 0 → Filling true room (put_penultimate pace seed room anchor (held true n w)) (Filled-is.Ready n) w
-  unfolding put_penultimate filled
+  pub penultimate_absent : anchor ≡ 0 → Filling true room (put_penultimate pace seed room anchor (held true n w)) (Ok n) w
+  unfolding put_penultimate
   penultimate_absent e = gives n (rw e refl) p
 
   module _ (h : anchor ≡ 0 → ⊥) where
-    pub penultimate_full : room ≤ n → Filling true room (put_penultimate pace seed room anchor (held true n w)) (Filled-is.Refused 14) w
-    unfolding filled
+    pub penultimate_full : room ≤ n → Filling true room (put_penultimate pace seed room anchor (held true n w)) (Err Room) w
     penultimate_full e = refuses 14 (fails ROOM _ _ (no_room true p.part e) ∙ there pace seed room _ anchor h)
 
     pub penultimate_on : {C : Type 0} {view : C → Lists} {Keeps : C → Type 0} {r : Answer C} → n < room → Gives view Keeps (then (candidate true pace seed 1) (λ day. put room anchor (same_flag day anchor) (held true n w))) r → Gives view Keeps (put_penultimate pace seed room anchor (held true n w)) r
@@ -44,10 +44,8 @@ flagged room day f flag l e g = rw (← e) g
 
 pub ruleset penultimate = (penultimate_absent, penultimate_full, penultimate_on, flagged, dates, fills, rules)
 
--- ---- the end
-
 -- ---- what the steps were called with is what the definition says
-pub begun_is : (q : Request) (room : ℕ) (pace : Pace) → pace ≡ pace_of q.tenor → then (put room q.termination.day 1 nothing) (put_penultimate pace (seed_of q.monthend q.termination.day) room q.penultimate.day) ≡ begun q room
+pub begun_is : (q : Request) (room : ℕ) (pace : Pace) → pace ≡ pace_of q.tenor → then (put room q.termination 1 nothing) (put_penultimate pace (seed_of q.monthend q.termination) room q.penultimate) ≡ begun q room
 unfolding begun
 begun_is q room pace a = rw a refl
 

@@ -5,9 +5,9 @@ ghost use Rattle.steps.specs.Candidates.{seed_of};
 ghost use Rattle.steps.specs.Generate.{nothing, put, put_penultimate};
 ghost use Rattle.working.specs.Part.{working, Part, Placed, Fills};
 
-use date::Dated;
+use refusal::Refusal;
 use steps::{Pace, Seed, flags, seeds};
-use working::{Filled, candidates, lists};
+use working::{candidates, lists};
 
 // The next-to-last date, where there is one: regular if it is the first candidate.
 fn put_penultimate(
@@ -18,19 +18,16 @@ fn put_penultimate(
     anchor: u32,
     work: &mut [u32],
     marks: &mut [u8],
-) -> Filled
+) -> Result<usize, Refusal>
     ensures { Fills (Placed room) true room (put_penultimate pace seed room anchor) n (working work.old marks.old) result (working work.new marks.new) }
 {
     if anchor == 0 {
-        return Filled::Ready(n);
+        return Ok(n);
     }
     if room <= n {
-        return Filled::Refused(refusal::ROOM);
+        return Err(Refusal::Room);
     }
-    let next = match candidates::candidate(true, pace, seed, 1) {
-        Dated::Refused(k) => return Filled::Refused(k),
-        Dated::Day(d) => d,
-    };
+    let next = candidates::candidate(true, pace, seed, 1)?;
     let mark = flags::same_flag(next.day, anchor);
     lists::put(true, n, room, anchor, mark, work, marks)
 }
@@ -44,15 +41,12 @@ pub(crate) fn begin(
     room: usize,
     work: &mut [u32],
     marks: &mut [u8],
-) -> Filled
+) -> Result<usize, Refusal>
     ensures { Fills (Part room) true room (λ _. then (put room termination 1 nothing) (put_penultimate pace (seed_of monthend termination) room anchor)) 0 (working work.old marks.old) result (working work.new marks.new) }
 {
-    let n = match lists::put_first(true, room, termination, 1, work, marks) {
-        Filled::Refused(k) => return Filled::Refused(k),
-        Filled::Ready(n) => n,
-    };
+    let n = lists::put_first(true, room, termination, 1, work, marks)?;
     if anchor == 0 {
-        return Filled::Ready(n);
+        return Ok(n);
     }
     let seed = seeds::seed_of(monthend, termination);
     put_penultimate(n, room, pace, seed, anchor, work, marks)

@@ -6,28 +6,27 @@ ghost use Rattle.working.specs.Turning.{Looped};
 ghost use Rattle.working.specs.Adding.{Adds};
 ghost use Rattle.working.specs.Making.{Makes};
 
+use refusal::Refusal;
 use steps::{Request, Sure};
-use working::adds::Added;
-use working::{Adjusting, Generated, Piece, Round, Tip, adds, lists};
+use working::{Adjusting, Piece, Round, Tip, adds, lists};
 
 // The first date where the loop ended at it, then the effective date.
 fn end(
-    q: Request,
+    q: &Request,
     closed: &[u32],
     tip: Tip,
     room: usize,
     work: &mut [u32],
     paid: &mut [u32],
     marks: &mut [u8],
-) -> Added
-    ensures { Adds (Looped q.mask closed.now q.convention true room) true (ended q closed.now room) tip (working work.old marks.old) paid.old result (working work.new marks.new) paid.new }
+) -> Result<Tip, Refusal>
+    ensures { Adds (Looped q.now.mask closed.now q.now.convention true room) true (ended q.now closed.now room) tip (working work.old marks.old) paid.old result (working work.new marks.new) paid.new }
 {
-    let convention = q.convention;
     let adjusting = Adjusting {
-        convention,
+        convention: q.convention,
         mask: q.mask,
     };
-    let anchored = match adds::put_anchor(
+    let anchored = adds::put_anchor(
         true,
         room,
         tip,
@@ -37,10 +36,7 @@ fn end(
         work,
         paid,
         marks,
-    ) {
-        Added::Refused(k) => return Added::Refused(k),
-        Added::Ready(t) => t,
-    };
+    )?;
     adds::put_new(
         true,
         room,
@@ -56,7 +52,7 @@ fn end(
 
 // What is left once the loop has ended.
 pub(crate) fn backward_end(
-    q: Request,
+    q: &Request,
     closed: &[u32],
     tip: Tip,
     room: usize,
@@ -64,15 +60,12 @@ pub(crate) fn backward_end(
     work: &mut [u32],
     paid: &mut [u32],
     marks: &mut [u8],
-) -> Generated
-    ensures { Makes (Looped q.mask closed.now q.convention true room (working work.old marks.old) paid.old tip) q closed.now room (backward_end q closed.now room round.tries round.seed (held true tip.n (working work.old marks.old))) result (working work.new marks.new) paid.new }
+) -> Result<Piece, Refusal>
+    ensures { Makes (Looped q.now.mask closed.now q.now.convention true room (working work.old marks.old) paid.old tip) q.now closed.now room (backward_end q.now closed.now room round.tries round.seed (held true tip.n (working work.old marks.old))) result (working work.new marks.new) paid.new }
 {
-    let last = match end(q, closed, tip, room, work, paid, marks) {
-        Added::Refused(k) => return Generated::Refused(k),
-        Added::Ready(t) => t,
-    };
+    let last = end(q, closed, tip, room, work, paid, marks)?;
     let from = lists::surplus(4096, last.n);
-    Generated::Ready(Piece {
+    Ok(Piece {
         from,
         marked: from,
         n: last.n,

@@ -7,9 +7,9 @@ ghost use Rattle.steps.specs.Generate.{backward_from, backward};
 ghost use Rattle.working.specs.Part.{working, Begun, held};
 ghost use Rattle.working.specs.Making.{Blank, Makes};
 
+use refusal::Refusal;
 use steps::{Pace, Request, Sure, seeds};
-use working::walks::Walked;
-use working::{Adjusting, Begin, Course, Filled, Generated, Round, candidates, walks};
+use working::{Adjusting, Begin, Course, Piece, Round, candidates, walks};
 
 // Termination and the next-to-last date.
 mod beginning;
@@ -18,7 +18,7 @@ mod ending;
 
 // The loop, and what is left after it.
 fn backward_from(
-    q: Request,
+    q: &Request,
     closed: &[u32],
     pace: Pace,
     n: usize,
@@ -26,10 +26,9 @@ fn backward_from(
     work: &mut [u32],
     paid: &mut [u32],
     marks: &mut [u8],
-) -> Generated
-    ensures { Makes ((pace ≡ pace_of q.tenor) × (Begun closed.now room n (working work.old marks.old) × (length paid.old ≡ 4096))) q closed.now room (backward_from q closed.now room (held true n (working work.old marks.old))) result (working work.new marks.new) paid.new }
+) -> Result<Piece, Refusal>
+    ensures { Makes ((pace ≡ pace_of q.now.tenor) × (Begun closed.now room n (working work.old marks.old) × (length paid.old ≡ 4096))) q.now closed.now room (backward_from q.now closed.now room (held true n (working work.old marks.old))) result (working work.new marks.new) paid.new }
 {
-    let convention = q.convention;
     let day = seeds::anchor_or(q.penultimate.day, q.termination.day);
     let course = Course {
         back: true,
@@ -38,21 +37,19 @@ fn backward_from(
         exit: seeds::anchor_or(q.first.day, q.effective.day),
     };
     let adjusting = Adjusting {
-        convention,
+        convention: q.convention,
         mask: q.mask,
     };
     let begin = Begin {
         n,
         sure: Sure::NONE,
     };
-    let walked = walks::walk(course, room, adjusting, closed, begin, work, paid, marks);
-    match walked {
-        Walked::Refused(k) => Generated::Refused(k),
-        Walked::Ready { tip, tries } => {
-            let round = Round { tries, seed: day };
-            ending::backward_end(q, closed, tip, room, round, work, paid, marks)
-        }
-    }
+    let walked = walks::walk(course, room, adjusting, closed, begin, work, paid, marks)?;
+    let round = Round {
+        tries: walked.tries,
+        seed: day,
+    };
+    ending::backward_end(q, closed, walked.tip, room, round, work, paid, marks)
 }
 
 // The dates of a backward build.
@@ -63,16 +60,13 @@ pub fn backward(
     work: &mut [u32],
     paid: &mut [u32],
     marks: &mut [u8],
-) -> Generated
+) -> Result<Piece, Refusal>
     ensures { Makes (Blank q closed.now room (working work.old marks.old) paid.old) q closed.now room (backward q closed.now room) result (working work.new marks.new) paid.new }
 {
-    let tenor = q.tenor;
-    let pace = candidates::pace_of(tenor);
+    let q = &q;
+    let pace = candidates::pace_of(q.tenor);
     let termination = q.termination.day;
     let anchor = q.penultimate.day;
-    let n = match beginning::begin(termination, anchor, pace, q.monthend, room, work, marks) {
-        Filled::Refused(k) => return Generated::Refused(k),
-        Filled::Ready(n) => n,
-    };
+    let n = beginning::begin(termination, anchor, pace, q.monthend, room, work, marks)?;
     backward_from(q, closed, pace, n, room, work, paid, marks)
 }

@@ -1,13 +1,12 @@
 -- Request L4, "A night's book in one call": what a book comes to. Each of its requests is 01's single call, `decoded` and then the build,
 -- on the parts of the lent lists that begin where the schedule before it ended.
 -- Assumes nothing.
-use Rattle.std.specs.Prelude.{ℕ, suc, ◌+◌, ◌-◌, ◌*◌, ◌/◌, ◌≡◌, ◌&&◌, List, [], ◌∷◌, ◌++◌, eqb, leb, length, take, drop}
-use Rattle.refusal.specs.Answer.{Answer, given, refused, need, then, UNEVEN, BATCH}
+use Rattle.std.specs.Prelude.{ℕ, suc, ◌+◌, ◌-◌, ◌*◌, ◌/◌, ◌≡◌, ◌&&◌, List, [], ◌∷◌, ◌++◌, eqb, leb, length, take, drop, Result}
+use Rattle.refusal.specs.declared.Refusal.{Refusal}
+use Rattle.refusal.specs.Answer.{Answer, given, refused, answered, need, then, UNEVEN, BATCH}
 use Rattle.steps.specs.Build.{over, dates_after, flags_after}
 use Rattle.steps.specs.Entries.{Entries, entries_of, paid_of, unadjusted_after}
 use Rattle.request.specs.Format.{decoded}
-use Rattle.book.specs.declared.Booked.{Booked}
-use Rattle.book.specs.declared.Booked.TheVariants.{Answered, Refused}
 use Rattle.book.specs.Framing.{requests_in}
 
 -- ---- the single call, from bytes: room for 4,096 closed dates, and so many places for dates, flags and unadjusted dates
@@ -64,15 +63,16 @@ book_of bytes dates flags unadjusted answers =
     need UNEVEN (eqb dates flags && eqb dates unadjusted)
     (then (requests_in bytes) (λ rs. need BATCH (leb (length rs) (answers / 4)) (given rs)))
 
-unfoldable pub answered : Answer (List (List ℕ)) → Booked
-answered (given rs) = Answered (length rs)
-answered (refused n) = Refused n
+-- how many requests there are
+unfoldable pub counted : Answer (List (List ℕ)) → Answer ℕ
+counted (given rs) = given (length rs)
+counted (refused n) = refused n
 
 unfoldable pub lists_after : Answer (List (List ℕ)) → Lists → Lists
 lists_after (given rs) l = booked rs 0 0 l
 lists_after (refused n) l = l
 
 -- the promise of a book
-pub record Books (o : Answer (List (List ℕ))) (r : Booked) (l l' : Lists) : Type 0 where
-  pub answer : r ≡ answered o
+pub record Books (o : Answer (List (List ℕ))) (r : Result ℕ Refusal) (l l' : Lists) : Type 0 where
+  pub answer : answered r ≡ counted o
   pub after : l' ≡ lists_after o l

@@ -1,62 +1,36 @@
 // How a book is parted: a two-byte length, high byte first, leads each request.
-ghost use Rattle.std.specs.Prelude.{◌≡◌, ◌+◌, ◌≤◌, length, drop};
-ghost use Rattle.book.specs.Framing.{requests_in, size_of};
-ghost use Rattle.book.specs.Inner.Framed.{framed, Byte, SizeAt, end_of};
+ghost use Rattle.std.specs.Prelude.{◌≡◌, MatchOption};
+ghost use Rattle.refusal.specs.Answer.{answered};
+ghost use Rattle.book.specs.Framing.{requests_in};
+ghost use Rattle.book.specs.Book.{counted};
+ghost use Rattle.book.specs.Inner.Framed.{Cut, Leads};
 
-// How many requests there are; or the refusal.
-#[derive(Drop)]
-pub(crate) enum Framed {
-    Whole(u32),
-    Refused(u8),
-}
+use refusal::Refusal;
 
-fn wide(b: u8) -> usize
-    ensures { Byte b result }
+// The request that leads the bytes, and what is behind it; none where it is cut short.
+pub(crate) fn split_request(bytes: &[u8]) -> Option<(&[u8], &[u8])>
+    ensures { MatchOption result (Cut bytes.now) (λ p. Leads bytes.now p.0.now p.1.now) }
 {
-    b as usize
+    let (size, rest) = bytes.split_first_chunk::<2>()?;
+    let size = u16::from_be_bytes(*size) as usize;
+    rest.split_at_checked(size)
 }
 
-// The length that stands at a place.
-pub(crate) fn size_at(bytes: &[u8], at: usize) -> usize
-    requires { at + 2 ≤ length bytes.now }
-    ensures { SizeAt bytes.now at result }
-{
-    let low = at + 1;
-    wide(bytes[at]) * 256 + wide(bytes[low])
-}
-
-// The place behind the request that a length at this place leads, or 0 where it is cut short.
-fn end_at(bytes: &[u8], at: usize) -> usize
-    requires { at ≤ length bytes.now }
-    ensures { result ≡ end_of bytes.now at }
-{
-    let left = bytes.len() - at;
-    if left < 2 {
-        return 0;
-    }
-    let size = size_at(bytes, at);
-    if left - 2 < size {
-        return 0;
-    }
-    at + 2 + size
-}
-
-// The requests to the very end, counted: no more than 64, and none cut short.
-pub(crate) fn requests(bytes: &[u8]) -> Framed
-    ensures { result ≡ framed (requests_in bytes.now) }
+// The requests to the very end, counted: no more than 64, and none cut short. A `while`, since the bytes say where the next one begins.
+pub(crate) fn requests(bytes: &[u8]) -> Result<u32, Refusal>
+    ensures { answered result ≡ counted (requests_in bytes.now) }
 {
     let mut n: u32 = 0;
-    let mut at: usize = 0;
-    while at < bytes.len() {
+    let mut rest = bytes;
+    while !rest.is_empty() {
         if n == 64 {
-            return Framed::Refused(refusal::BATCH);
+            return Err(Refusal::Batch);
         }
-        let end = end_at(bytes, at);
-        if end == 0 {
-            return Framed::Refused(refusal::BATCH);
+        match split_request(rest) {
+            Some((_, behind)) => rest = behind,
+            None => return Err(Refusal::Batch),
         }
-        at = end;
         n += 1;
     }
-    Framed::Whole(n)
+    Ok(n)
 }

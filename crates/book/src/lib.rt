@@ -4,7 +4,7 @@
 ghost use Rattle.std.specs.Prelude.{◌≡◌, length};
 ghost use Rattle.book.specs.Book.{book_of, lists, Books};
 
-use framing::Framed;
+use refusal::Refusal;
 
 // How many requests the bytes hold.
 mod framing;
@@ -13,38 +13,28 @@ mod calls;
 // The requests in turn.
 mod turns;
 
-// How many requests there were, refused ones among them; or the refusal of the whole call.
-#[derive(Clone, Copy)]
-pub enum Booked {
-    Answered(u32),
-    Refused(u8),
-}
-
 // Builds the requests of a book, each schedule right behind the one before it, and puts four numbers a request into the start of
 // `answers`: count, start, tries, and the refusal's number or 0. A refused request takes no room and stops nothing. 1 and then 20 refuse
-// the whole book, and leave every list as it was.
+// the whole book, and leave every list as it was. Answers how many requests there were, refused ones among them.
 pub fn build(
     bytes: &[u8],
     dates: &mut [u32],
     flags: &mut [u8],
     unadjusted: &mut [u32],
     answers: &mut [u32],
-) -> Booked
+) -> Result<u32, Refusal>
     ensures { Books (book_of bytes.now (length dates.old) (length flags.old) (length unadjusted.old) (length answers.old)) result (lists dates.old flags.old unadjusted.old answers.old) (lists dates.new flags.new unadjusted.new answers.new) }
 {
     if dates.len() != flags.len() {
-        return Booked::Refused(refusal::UNEVEN);
+        return Err(Refusal::Uneven);
     }
     if dates.len() != unadjusted.len() {
-        return Booked::Refused(refusal::UNEVEN);
+        return Err(Refusal::Uneven);
     }
-    let n = match framing::requests(bytes) {
-        Framed::Refused(k) => return Booked::Refused(k),
-        Framed::Whole(n) => n,
-    };
+    let n = framing::requests(bytes)?;
     if answers.len() / 4 < n as usize {
-        return Booked::Refused(refusal::BATCH);
+        return Err(Refusal::Batch);
     }
     turns::take_turns(bytes, dates, flags, unadjusted, answers);
-    Booked::Answered(n)
+    Ok(n)
 }

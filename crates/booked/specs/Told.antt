@@ -1,19 +1,12 @@
 -- A book in one number: how many requests there were, or minus the number of the refusal; and what the four lent lists then hold.
 -- Assumes nothing.
-use Rattle.std.specs.Prelude.{ℕ, ◌≡◌, List, ℤ, pos, neg_ℤ, length}
+use Rattle.std.specs.Prelude.{ℕ, ◌≡◌, List, ℤ, length}
 use Rattle.refusal.specs.Answer.{Answer}
 use Rattle.crossing.specs.Answers.{one_number_of}
-use Rattle.book.specs.declared.Booked.{Booked}
-use Rattle.book.specs.declared.Booked.TheVariants.{Answered, Refused}
 use Rattle.book.specs.Book.{Lists, lists_after}
 
 unfoldable pub how_many : List (List ℕ) → ℕ
 how_many rs = length rs
-
--- what the code answers of a book
-unfoldable pub number_in : Booked → ℤ
-number_in (Answered n) = pos n
-number_in (Refused n) = neg_ℤ (pos n)
 
 -- the promise of a book
 pub record Told (o : Answer (List (List ℕ))) (r : ℤ) (l l' : Lists) : Type 0 where

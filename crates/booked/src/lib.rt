@@ -1,21 +1,11 @@
 // A night's book whose answer is one number, for other languages.
 #![tactic(auto)]
 
-ghost use Rattle.std.specs.Prelude.{◌≡◌, length};
+ghost use Rattle.std.specs.Prelude.{length};
 ghost use Rattle.book.specs.Book.{book_of, lists};
-ghost use Rattle.booked.specs.Told.{number_in, Told};
+ghost use Rattle.booked.specs.Told.{Told};
 
-use book::Booked;
-use crossing::answers;
-
-fn one_number(b: Booked) -> i64
-    ensures { result ≡ number_in b }
-{
-    match b {
-        Booked::Answered(n) => answers::value(n),
-        Booked::Refused(k) => answers::minus(k),
-    }
-}
+use crossing::answers::one_number;
 
 // Builds the requests of a book (`book::build`): how many there were, or minus the refusal of the whole call.
 pub fn build(
@@ -27,6 +17,5 @@ pub fn build(
 ) -> i64
     ensures { Told (book_of bytes.now (length dates.old) (length flags.old) (length unadjusted.old) (length answers.old)) result (lists dates.old flags.old unadjusted.old answers.old) (lists dates.new flags.new unadjusted.new answers.new) }
 {
-    let done = book::build(bytes, dates, flags, unadjusted, answers);
-    one_number(done)
+    one_number(book::build(bytes, dates, flags, unadjusted, answers))
 }

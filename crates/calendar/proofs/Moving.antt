@@ -7,14 +7,14 @@ use mathlib.Core.List.{List}
 use lib.IntN.{ℤ, pos, nat_abs, sub_ℕ}
 use mir.Syntax.{w32}
 use mir.Val.{to_z, of_z}
-use Rattle.refusal.specs.Answer.{Answer, given, refused, need, then, TENOR}
+use Rattle.refusal.specs.Answer.{Answer, given, refused, answered, need, then, TENOR}
 use Rattle.period.specs.Period.{is_negative}
 use Rattle.period.specs.declared.Unit.{Unit}
-use Rattle.date.specs.declared.Date.{Date}
-use Rattle.date.specs.declared.Dated.{Dated}
-use Rattle.date.specs.declared.Dated.TheVariants.{Day, Refused}
+use Rattle.std.specs.Prelude.{Result, Ok, Err}
+use Rattle.refusal.specs.declared.Refusal.{Refusal}
+use Rattle.refusal.specs.Refusals.{number_of}
 use Rattle.period.specs.declared.Unit.TheVariants.{Days}
-use Rattle.date.specs.Date.{SPAN_LAST, dated, within_span, shifted}
+use Rattle.date.specs.Date.{SPAN_LAST, within_span, shifted}
 use Rattle.date.specs.Laws.Moves.{diff_back}
 use Rattle.date.specs.Laws.Made.{given_day, refused_day}
 use Rattle.calendar.specs.declared.Convention.{Convention}
@@ -48,22 +48,22 @@ pub moved_same : {A : Type 0} (x y : Answer A) (f g : A → Answer ℕ) (r : Ans
 moved_same {A} x y f g r h e = h ∙ ap (λ (a : Answer A). moved_from (then a f) (then a g)) e
 
 -- ---- a date from the day that a call gave, or nothing where it refused
-module _ (start : Dated) (a : Answer ℕ) (look : ℕ → Answer ℕ) (h : dated start ≡ a) where
-  pub from_there : (x : Date) (r : Answer (ℕ × ℤ)) → start ≡ Day x → r ≡ moved_from (given x.day) (look x.day) → r ≡ moved_from a (then a look)
+module _ (start : Result ℕ Refusal) (a : Answer ℕ) (look : ℕ → Answer ℕ) (h : answered start ≡ a) where
+  pub from_there : (x : ℕ) (r : Answer (ℕ × ℤ)) → start ≡ Ok x → r ≡ moved_from (given x) (look x) → r ≡ moved_from a (then a look)
   unfolding then
   from_there x r e q = let g = given_day start x a h e in rw g q
 
-  pub from_nowhere : (n : ℕ) (base : Answer ℕ) → start ≡ Refused n → refused n ≡ moved_from base (then a look)
-  from_nowhere n base e = unmoved_then a n base look (refused_day start n a h e)
+  pub from_nowhere : (n : Refusal) (base : Answer ℕ) → start ≡ Err n → refused (number_of n) ≡ moved_from base (then a look)
+  from_nowhere n base e = unmoved_then a (number_of n) base look (refused_day start n a h e)
 
 -- ---- open days: the day that the steps led to, from the sum with as many natural days
-module _ (opens : ℕ → Bool) (back : Bool) (size day : ℕ) (s : in_span day ≡ true) (sum : Dated) (h : dated sum ≡ shifted day back size Days) (new : ℕ) (f : open_steps opens back size day ≡ given new) where
-  pub led : (x : Date) (r : Answer (ℕ × ℤ)) → sum ≡ Day x → (UpTo x.day (given new) → r ≡ moved_from (given x.day) (given new)) → r ≡ moved_from (shifted day back size Days) (open_steps opens back size day)
+module _ (opens : ℕ → Bool) (back : Bool) (size day : ℕ) (s : in_span day ≡ true) (sum : Result ℕ Refusal) (h : answered sum ≡ shifted day back size Days) (new : ℕ) (f : open_steps opens back size day ≡ given new) where
+  pub led : (x : ℕ) (r : Answer (ℕ × ℤ)) → sum ≡ Ok x → (UpTo x (given new) → r ≡ moved_from (given x) (given new)) → r ≡ moved_from (shifted day back size Days) (open_steps opens back size day)
   led x r e k =
       let g = given_day sum x _ h e in
-      rw (g, f) (k (steps_up_to opens back size day x.day (given new) s (sym f) g))
+      rw (g, f) (k (steps_up_to opens back size day x (given new) s (sym f) g))
 
-  pub led_nowhere : (n : ℕ) → sum ≡ Refused n → refused n ≡ moved_from (shifted day back size Days) (open_steps opens back size day)
+  pub led_nowhere : (n : Refusal) → sum ≡ Err n → refused (number_of n) ≡ moved_from (shifted day back size Days) (open_steps opens back size day)
   unfolding moved_from then
   led_nowhere n e = let g = refused_day sum n _ h e in rw (f, g)
 
@@ -75,9 +75,9 @@ module _ (length sent : ℤ) (unit : Unit) (size : ℕ) (short : Bool) (same : s
   pub tenor_long : (base x : Answer ℕ) → not short ≡ true → refused TENOR ≡ moved_from base (need TENOR (tenor_ok (nat_abs length) unit) x)
   tenor_long base x e = moved_barred base _ _ _ _ test e
 
-  pub tenor_fits : (mask : ℕ) (closed : List ℕ) (convention : Convention) (endOfMonth : Bool) (day : ℕ) (back : Bool) (r : Answer (ℕ × ℤ)) → back ≡ is_negative sent → not short ≡ false → r ≡ moved_from (advance_base mask closed back size unit endOfMonth day) (advanced mask closed back size unit convention endOfMonth day) → r ≡ moved_from (advance_base mask closed (is_negative length) (nat_abs length) unit endOfMonth day) (need TENOR (tenor_ok (nat_abs length) unit) (advanced mask closed (is_negative length) (nat_abs length) unit convention endOfMonth day))
-  tenor_fits mask closed convention endOfMonth day back r n e h =
+  pub tenor_fits : (mask : ℕ) (closed : List ℕ) (convention : Convention) (monthend : Bool) (day : ℕ) (back : Bool) (r : Answer (ℕ × ℤ)) → back ≡ is_negative sent → not short ≡ false → r ≡ moved_from (advance_base mask closed back size unit monthend day) (advanced mask closed back size unit convention monthend day) → r ≡ moved_from (advance_base mask closed (is_negative length) (nat_abs length) unit monthend day) (need TENOR (tenor_ok (nat_abs length) unit) (advanced mask closed (is_negative length) (nat_abs length) unit convention monthend day))
+  tenor_fits mask closed convention monthend day back r n e h =
       moved_cleared _ _ _ _ _ _ test e
       (h
-      ∙ ap (λ (b : Bool). moved_from (advance_base mask closed b size unit endOfMonth day) (advanced mask closed b size unit convention endOfMonth day)) (n ∙ ap is_negative same)
-      ∙ ap (λ (k : ℕ). moved_from (advance_base mask closed (is_negative length) k unit endOfMonth day) (advanced mask closed (is_negative length) k unit convention endOfMonth day)) (s ∙ ap nat_abs same))
+      ∙ ap (λ (b : Bool). moved_from (advance_base mask closed b size unit monthend day) (advanced mask closed b size unit convention monthend day)) (n ∙ ap is_negative same)
+      ∙ ap (λ (k : ℕ). moved_from (advance_base mask closed (is_negative length) k unit monthend day) (advanced mask closed (is_negative length) k unit convention monthend day)) (s ∙ ap nat_abs same))

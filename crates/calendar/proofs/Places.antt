@@ -1,13 +1,18 @@
 -- What a comparison tells of where the place is.
 -- Assumes nothing.
 use Prim.Native.Nat.{ℕ, ◌+◌, ◌-◌, ◌≤◌, ◌<◌}
-use mathlib.Core.Path.{◌≡◌, sym, subst}
+use mathlib.Core.Path.{◌≡◌, refl, ap, sym, subst, ◌∙◌}
 use mathlib.Core.Bool.{true}
 use mathlib.Core.List.{List}
 use mathlib.Core.Logic.{⊎_elim}
 use native.Mathlib.Nat.{not-suc-le-zero, eq-or-lt_of_le}
 use native.Mathlib.Omega.{arith}
-use lib.ListN.{length, get_or}
+use lib.ListN.{length, get_or, take, drop}
+use Rattle.std.specs.Prelude.{ltb, false}
+use Rattle.std.specs.List.Sorted.{IsPartitionedBy, IsPartitionPoint}
+use Rattle.std.proofs.lemmas.List.{get_or-take, get_or-drop, length-take, length-drop}
+use Rattle.std.proofs.Common.{Bool, ltb-true, ltb-false, lt-ltb}
+use Rattle.std.proofs.lemmas.Grind.{get_or_default_zero}
 use borrow.Author.Rules.{rules}
 use Rattle.calendar.specs.Open.{closed_ok}
 use Rattle.calendar.specs.Laws.Kept.{ok_at}
@@ -52,6 +57,53 @@ module _ {closed : List ℕ} {x lo hi : ℕ} (b : Bracket closed x lo hi) where
         below = b.below;
         from = λ ok k l r. b.from ok k (omega arith) r;
       }
+
+-- ---- the library's search of a part of the list
+module _ {closed : List ℕ} {x lo hi : ℕ} (b : Bracket closed x lo hi) where
+  part_at : (i d : ℕ) → i < hi - lo → get_or (take (hi - lo) (drop lo closed)) i d ≡ get_or closed (lo + i) 0
+  part_at i d h =
+      get_or-take (hi - lo) (drop lo closed) i d h
+      ∙ get_or-drop lo closed i d
+      ∙ get_or_default_zero closed (lo + i) d (omega (arith, b.within))
+
+  pub part_size : length (take (hi - lo) (drop lo closed)) ≡ hi - lo
+  part_size = rw (length-take, length-drop) (omega (arith, b.order, b.within))
+
+  -- before a date that is before x there are only such
+  pub parted : closed_ok closed ≡ true → IsPartitionedBy (λ (d : ℕ). ltb d x) (take (hi - lo) (drop lo closed))
+  parted ok i j d l h p =
+      let n : j < hi - lo = rw part_size at h in
+      let q : get_or closed (lo + j) 0 < x = ltb-true _ _ (sym (ap (λ (y : ℕ). ltb y x) (part_at j d n)) ∙ p) in
+      ap (λ (y : ℕ). ltb y x) (part_at i d (omega arith))
+      ∙ lt-ltb _ _ (⊎_elim (λ (e : i ≡ j). rw e q) (λ (e : i < j). omega (arith, q, ok_at closed (lo + i) (lo + j) ok (omega arith) (omega (arith, b.within)))) (eq-or-lt_of_le l))
+
+  module _ (r : ℕ) (h : r ≤ hi - lo) (point : closed_ok closed ≡ true → IsPartitionPoint (λ (d : ℕ). ltb d x ≡ true) (λ (d : ℕ). ltb d x ≡ false) (take (hi - lo) (drop lo closed)) r) where
+    -- the date at a place of the part, by its place in the list
+    there : (k : ℕ) → lo ≤ k → k < hi → get_or (take (hi - lo) (drop lo closed)) (k - lo) 0 ≡ get_or closed k 0
+    there k l m = part_at (k - lo) 0 (omega arith) ∙ ap (λ (n : ℕ). get_or closed n 0) (back k l)
+      where
+        back : (k : ℕ) → lo ≤ k → lo + (k - lo) ≡ k
+        back k l = omega arith
+
+    low : closed_ok closed ≡ true → (k : ℕ) → k < lo + r → (t : Bool) → ltb k lo ≡ t → get_or closed k 0 < x
+    low ok k l true e = (b.below ok).before k (ltb-true k lo e)
+    low ok k l false e =
+        let g : lo ≤ k = ltb-false k lo e in
+        ltb-true _ _ (sym (ap (λ (y : ℕ). ltb y x) (there k g (omega arith))) ∙ (point ok).0 (k - lo) 0 (omega arith) (omega arith))
+
+    high : closed_ok closed ≡ true → (k : ℕ) → lo + r ≤ k → k < length closed → (t : Bool) → ltb k hi ≡ t → x ≤ get_or closed k 0
+    high ok k l m true e =
+        let g : k < hi = ltb-true k hi e in
+        ltb-false _ _ (sym (ap (λ (y : ℕ). ltb y x) (there k (omega arith) g)) ∙ (point ok).1 (k - lo) 0 (omega arith) (rw part_size (omega arith)))
+    high ok k l m false e = b.from ok k (ltb-false k hi e) m
+
+    pub bisected : LowerBound closed x (lo + r)
+    bisected =
+        record {
+          within = omega (arith, b.order, b.within);
+          below = λ ok. record { before = λ k l. low ok k l (ltb k lo) refl };
+          from = λ ok k l m. high ok k l m (ltb k hi) refl;
+        }
 
 -- a place whose date is not before x, behind one that is
 pub place_at : {closed : List ℕ} {x : ℕ} (place : ℕ) → Bracket closed x 0 place → (place ≡ 0 → ⊥) → get_or closed (place - 1) 0 < x → LowerBound closed x place

@@ -1,42 +1,18 @@
 -- Document 01, "Calendar": what each public function answers. A date given lies in the book (2), then the calendar is checked (3), then the tenor (5).
 -- Assumes nothing.
 use Rattle.std.specs.Prelude.{ℕ, Bool, true, false, ◌||◌, List, eqb, leb, ℤ, nat_abs}
-use Rattle.refusal.specs.Answer.{Answer, given, refused, need, BOOK, CALENDAR, TENOR}
+use Rattle.refusal.specs.Answer.{Answer, given, need, BOOK, CALENDAR, TENOR}
 use Rattle.period.specs.Period.{is_negative}
 use Rattle.period.specs.declared.Unit.{Unit}
 use Rattle.period.specs.declared.Unit.TheVariants.{Days, Weeks, Months, Years}
 use Rattle.date.specs.Date.{in_book}
 use Rattle.calendar.specs.declared.Convention.{Convention}
-use Rattle.calendar.specs.declared.Checked.{Checked}
-use Rattle.calendar.specs.declared.Checked.TheVariants as checked-is
-use Rattle.calendar.specs.declared.Decided.{Decided}
-use Rattle.calendar.specs.declared.Decided.TheVariants as decided-is
-use Rattle.calendar.specs.declared.search.Placed.{Placed}
-use Rattle.calendar.specs.declared.search.Placed.TheVariants as placed-is
 use Rattle.calendar.specs.Open.{is_open_day, calendar_ok}
 use Rattle.calendar.specs.Adjust.{adjusted, last_open, at_month_end, advanced}
 
--- ---- what each case of an answer says: its value, or document 01's number
-pub data Sound : Type 0 where
-  sound : Sound
-
-unfoldable pub checked : Checked → Answer Sound
-checked checked-is.Sound = given sound
-checked (checked-is.Refused n) = refused n
-
-unfoldable pub decided : Decided → Answer Bool
-decided decided-is.Yes = given true
-decided decided-is.No = given false
-decided (decided-is.Refused n) = refused n
-
--- the adjusted date alone
-unfoldable pub placed : Placed → Answer ℕ
-placed (placed-is.Day day near) = given day
-placed (placed-is.Refused n) = refused n
-
 -- ---- the public functions
-unfoldable pub check_of : ℕ → List ℕ → Answer Sound
-check_of mask closed = need CALENDAR (calendar_ok mask closed) (given sound)
+unfoldable pub check_of : ℕ → List ℕ → Answer (Prim.Unit {0})
+check_of mask closed = need CALENDAR (calendar_ok mask closed) (given tt)
 
 unfoldable pub is_open_of : ℕ → List ℕ → ℕ → Answer Bool
 is_open_of mask closed day =

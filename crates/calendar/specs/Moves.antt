@@ -9,15 +9,8 @@ use Rattle.period.specs.declared.Unit.{Unit}
 use Rattle.period.specs.declared.Unit.TheVariants.{Days, Weeks, Months, Years}
 use Rattle.date.specs.Date.{last_of_month, shifted}
 use Rattle.calendar.specs.declared.Convention.{Convention}
-use Rattle.calendar.specs.declared.Moved.{Moved}
-use Rattle.calendar.specs.declared.Moved.TheVariants as moved-is
 use Rattle.calendar.specs.Adjust.{end_asked}
 use Rattle.calendar.specs.Calendar.{adjust_of, last_open_of, advanced_of}
-
--- what each case of an answer says: the date and the days, or the number of a refusal
-unfoldable pub moved : Moved → Answer (ℕ × ℤ)
-moved (moved-is.Day date days) = given (date.day, days)
-moved (moved-is.Refused n) = refused n
 
 -- a date, and how many days after the base it lies
 unfoldable pub moved_from : (base date : Answer ℕ) → Answer (ℕ × ℤ)

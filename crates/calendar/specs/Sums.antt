@@ -9,7 +9,7 @@ use Rattle.calendar.specs.declared.Convention.TheVariants.{Unadjusted, Following
 use Rattle.calendar.specs.Open.{weekly_closed, member, is_open_day, ascending, closed_ok, calendar_ok}
 use Rattle.calendar.specs.AnyCalendar as any
 use Rattle.calendar.specs.Adjust.{in_span, same_month, taken_or, unless_left, towards}
-use Rattle.calendar.specs.Calendar.{Sound, sound, check_of, is_open_of, adjust_of, last_open_of, unless_empty, is_month_end_of, longest, tenor_ok, advanced_of}
+use Rattle.calendar.specs.Calendar.{check_of, is_open_of, adjust_of, last_open_of, unless_empty, is_month_end_of, longest, tenor_ok, advanced_of}
 use Rattle.calendar.specs.Moves.{moved_from, land_base, months_base, advance_base, adjust_move_of, last_open_move_of, advance_move_of}
 
 -- 1 for yes and for a sound calendar, 0 for no
@@ -18,8 +18,8 @@ told (given true) = given 1
 told (given false) = given 0
 told (refused n) = refused n
 
-unfoldable passed : Answer Sound → Answer ℕ
-passed (given sound) = given 1
+unfoldable passed : Answer (Prim.Unit {0}) → Answer ℕ
+passed (given tt) = given 1
 passed (refused n) = refused n
 
 -- ---- the calendars of the list

@@ -17,12 +17,10 @@ pub fn keep_rule(closed: &[u32]) -> bool
         return true;
     }
     let mut keeps = span::FIRST <= closed[0];
-    let mut i = 1;
-    while i < closed.len() {
+    for i in 1..closed.len() {
         keeps = keeps & (closed[i - 1] < closed[i]);
-        i += 1;
     }
-    keeps & (closed[i - 1] <= span::LAST)
+    keeps & (closed[closed.len() - 1] <= span::LAST)
 }
 
 // The first place whose date is at least x, or the length, known to lie from one place to another.
@@ -30,17 +28,7 @@ fn bisect(closed: &[u32], x: u32, from: usize, to: usize) -> usize
     requires { Bracket closed.now x from to }
     ensures { LowerBound closed.now x result }
 {
-    let mut lo = from;
-    let mut hi = to;
-    while lo < hi {
-        let mid = lo + (hi - lo) / 2;
-        if closed[mid] < x {
-            lo = mid + 1;
-        } else {
-            hi = mid;
-        }
-    }
-    lo
+    from + closed[from..to].partition_point(|date| *date < x)
 }
 
 // The same place, up to a place that is known, looked for from there in steps that double.
@@ -50,6 +38,7 @@ fn place_up_to(closed: &[u32], x: u32, to: usize) -> usize
 {
     let mut hi = to;
     let mut step = 1;
+    // No range counts steps that double, and the library has no search from a guess.
     while step <= hi {
         let at = hi - step;
         if closed[at] < x {
@@ -68,6 +57,7 @@ fn place_from(closed: &[u32], x: u32, from: usize) -> usize
 {
     let mut lo = from;
     let mut step = 1;
+    // As above: no range counts steps that double.
     while step < closed.len() - lo {
         let at = lo + step;
         if x <= closed[at] {

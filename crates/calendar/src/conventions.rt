@@ -1,61 +1,42 @@
 // The five conventions, from a day's place in the list of closed dates.
 ghost use Rattle.std.specs.Prelude.{◌≡◌, true};
-ghost use Rattle.date.specs.Date.{dated};
-ghost use Rattle.calendar.specs.declared.Convention.TheVariants.{ModifiedFollowing, ModifiedPreceding};
+ghost use Rattle.refusal.specs.Answer.{answered, need, BOOK};
 ghost use Rattle.calendar.specs.Open.{closed_ok};
 ghost use Rattle.calendar.specs.Inner.Places.{LowerBound};
-ghost use Rattle.calendar.specs.Adjust.{adjusted};
+ghost use Rattle.calendar.specs.Adjust.{in_span, modified, adjusted};
 
 use crate::{Convention, months, scan};
-use date::{Dated, span};
+use date::{Date, span};
+use refusal::Refusal;
 
-fn modified_following(place: usize, day: u32, mask: u8, closed: &[u32]) -> Dated
+// The day found, or that of the search the other way where the first one left the month.
+fn modified(place: usize, day: u32, back: bool, mask: u8, closed: &[u32]) -> Result<Date, Refusal>
     requires { LowerBound closed.now day place }
-    ensures { closed_ok closed.now ≡ true → dated result ≡ adjusted mask closed.now ModifiedFollowing day }
+    ensures { closed_ok closed.now ≡ true → answered result ≡ need BOOK (in_span day) (modified mask closed.now back day) }
 {
-    let first = scan::following_from(place, day, mask, closed);
-    match first {
-        Dated::Day(later) => {
-            if months::same_month(day, later.day) {
-                return Dated::Day(later);
-            }
-            scan::preceding_from(place, day, mask, closed)
-        }
-        Dated::Refused(n) => Dated::Refused(n),
+    let found = scan::look(place, day, back, mask, closed)?;
+    if months::same_month(day, found.day) {
+        return Ok(found);
     }
+    scan::look(place, day, !back, mask, closed)
 }
 
-fn modified_preceding(place: usize, day: u32, mask: u8, closed: &[u32]) -> Dated
-    requires { LowerBound closed.now day place }
-    ensures { closed_ok closed.now ≡ true → dated result ≡ adjusted mask closed.now ModifiedPreceding day }
-{
-    let first = scan::preceding_from(place, day, mask, closed);
-    match first {
-        Dated::Day(earlier) => {
-            if months::same_month(day, earlier.day) {
-                return Dated::Day(earlier);
-            }
-            scan::following_from(place, day, mask, closed)
-        }
-        Dated::Refused(n) => Dated::Refused(n),
-    }
-}
-
+#[tactic(auto, using(crate::specs::Laws::Search::span_need), unfolding(crate::specs::AnyCalendar::adjusted, crate::specs::AnyCalendar::by_convention, crate::specs::AnyCalendar::towards, refusal::specs::Answer::need))]
 pub(crate) fn search_from(
     place: usize,
     day: u32,
     convention: Convention,
     mask: u8,
     closed: &[u32],
-) -> Dated
+) -> Result<Date, Refusal>
     requires { LowerBound closed.now day place }
-    ensures { closed_ok closed.now ≡ true → dated result ≡ adjusted mask closed.now convention day }
+    ensures { closed_ok closed.now ≡ true → answered result ≡ adjusted mask closed.now convention day }
 {
     match convention {
         Convention::Unadjusted => span::within(day as u64),
-        Convention::Following => scan::following_from(place, day, mask, closed),
-        Convention::ModifiedFollowing => modified_following(place, day, mask, closed),
-        Convention::Preceding => scan::preceding_from(place, day, mask, closed),
-        Convention::ModifiedPreceding => modified_preceding(place, day, mask, closed),
+        Convention::Following => scan::look(place, day, false, mask, closed),
+        Convention::ModifiedFollowing => modified(place, day, false, mask, closed),
+        Convention::Preceding => scan::look(place, day, true, mask, closed),
+        Convention::ModifiedPreceding => modified(place, day, true, mask, closed),
     }
 }

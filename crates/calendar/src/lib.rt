@@ -1,13 +1,16 @@
 // Open days of a calendar: weekly closed days, Monday the lowest bit of the mask, and a lent list of closed dates.
 #![tactic(auto)]
 
-ghost use Rattle.std.specs.Prelude.{◌≡◌};
-ghost use Rattle.calendar.specs.Open.{calendar_ok};
-ghost use Rattle.calendar.specs.Calendar.{checked, decided, check_of, is_open_of, is_month_end_of, tenor_ok};
-ghost use Rattle.calendar.specs.Moves.{moved, adjust_move_of, last_open_move_of, advance_move_of};
+ghost use Rattle.std.specs.Prelude.{◌≡◌, true, IfOk};
+ghost use Rattle.refusal.specs.Answer.{answered};
+ghost use Rattle.calendar.specs.Open.{calendar_ok, closed_ok};
+ghost use Rattle.calendar.specs.Calendar.{check_of, is_open_of, is_month_end_of, tenor_ok};
+ghost use Rattle.calendar.specs.Moves.{adjust_move_of, last_open_move_of, advance_move_of};
 
-use date::{Date, in_book};
+use date::Date;
 use period::{Period, Unit, sign};
+use refusal::Refusal;
+use std::marker::Model;
 
 // The leaves: the list of closed dates, with its rule and the place of a day in it; the weekly mask; months.
 pub mod closed_dates;
@@ -21,8 +24,10 @@ pub mod month_ends;
 pub mod moves;
 pub mod scan;
 pub mod search;
+// A calendar that was checked once.
+pub mod sound;
 
-#[derive(Clone, Copy)]
+#[derive(Clone, Copy, Debug, PartialEq, Eq)]
 pub enum Convention {
     Unadjusted,
     Following,
@@ -31,26 +36,24 @@ pub enum Convention {
     ModifiedPreceding,
 }
 
-#[derive(Clone, Copy)]
-pub enum Checked {
-    Sound,
-    Refused(u8),
-}
-
-#[derive(Clone, Copy)]
-pub enum Decided {
-    Yes,
-    No,
-    Refused(u8),
-}
-
 // An adjusted date, and the days that it moved, later being positive.
-#[derive(Clone, Copy)]
-pub enum Moved {
-    Day { date: Date, days: i32 },
-    Refused(u8),
+#[derive(Clone, Copy, Debug, PartialEq, Eq)]
+pub struct Moved {
+    pub date: Date,
+    pub days: i32,
 }
 
+impl Model for Moved {
+    ghost use Rattle.std.specs.Prelude.{ℕ, ℤ};
+
+    ghost Value = { ℕ × ℤ };
+
+    ghost view = { λ m. (m.date, m.days) };
+
+    ghost inverse = { λ p. record { date = p.0; days = p.1 } };
+}
+
+#[tactic(auto, using(crate::proofs::Ways::open_mask, crate::proofs::Ways::shut_mask))]
 fn is_sound(mask: u8, closed: &[u32]) -> bool
     ensures { result ≡ calendar_ok mask closed.now }
 {
@@ -61,6 +64,7 @@ fn is_sound(mask: u8, closed: &[u32]) -> bool
 }
 
 // The size is at most 366 days, 520 weeks, 1,200 months or 100 years.
+#[tactic(auto, unfolding(crate::specs::Calendar::tenor_ok, crate::specs::Calendar::longest))]
 pub fn is_short(size: u32, unit: Unit) -> bool
     ensures { result ≡ tenor_ok size unit }
 {
@@ -72,80 +76,68 @@ pub fn is_short(size: u32, unit: Unit) -> bool
     }
 }
 
-pub fn check(mask: u8, closed: &[u32]) -> Checked
-    ensures { checked result ≡ check_of mask closed.now }
+#[tactic(auto, unfolding(crate::specs::Calendar::check_of, crate::specs::Open::calendar_ok, refusal::specs::Answer::need))]
+pub fn check(mask: u8, closed: &[u32]) -> Result<(), Refusal>
+    ensures value { answered result ≡ check_of mask closed.now }
+    ensures list { IfOk result (λ _. closed_ok closed.now ≡ true) }
 {
-    if !is_sound(mask, closed) {
-        return Checked::Refused(refusal::CALENDAR);
+    if is_sound(mask, closed) {
+        Ok(())
+    } else {
+        Err(Refusal::Calendar)
     }
-    Checked::Sound
 }
 
-pub fn is_open(date: Date, mask: u8, closed: &[u32]) -> Decided
-    ensures { decided result ≡ is_open_of mask closed.now date.day }
+#[tactic(auto, unfolding(crate::specs::Calendar::is_open_of, crate::specs::Calendar::check_of, refusal::specs::Answer::need))]
+pub fn is_open(date: Date, mask: u8, closed: &[u32]) -> Result<bool, Refusal>
+    ensures { answered result ≡ is_open_of mask closed.now date }
 {
-    let day = date.day;
-    if !in_book(day) {
-        return Decided::Refused(refusal::BOOK);
-    }
-    if !is_sound(mask, closed) {
-        return Decided::Refused(refusal::CALENDAR);
-    }
-    if scan::is_open(day, mask, closed) {
-        return Decided::Yes;
-    }
-    Decided::No
+    let day = date.booked()?;
+    check(mask, closed)?;
+    Ok(scan::is_open(day, mask, closed))
 }
 
-pub fn adjust(date: Date, convention: Convention, mask: u8, closed: &[u32]) -> Moved
-    ensures { moved result ≡ adjust_move_of mask closed.now convention date.day }
+#[tactic(auto, unfolding(crate::specs::Moves::adjust_move_of, crate::specs::Moves::moved_from, crate::specs::Calendar::adjust_of, crate::specs::Calendar::check_of, refusal::specs::Answer::need, refusal::specs::Answer::then))]
+pub fn adjust(
+    date: Date,
+    convention: Convention,
+    mask: u8,
+    closed: &[u32],
+) -> Result<Moved, Refusal>
+    ensures { answered result ≡ adjust_move_of mask closed.now convention date }
 {
-    let day = date.day;
-    if !in_book(day) {
-        return Moved::Refused(refusal::BOOK);
-    }
-    if !is_sound(mask, closed) {
-        return Moved::Refused(refusal::CALENDAR);
-    }
+    let day = date.booked()?;
+    check(mask, closed)?;
     search::adjust(day, convention, mask, closed)
 }
 
 // The last open day of the date's month, and the days from the month's last day to it.
-pub fn month_end(date: Date, mask: u8, closed: &[u32]) -> Moved
-    ensures { moved result ≡ last_open_move_of mask closed.now date.day }
+#[tactic(auto, unfolding(crate::specs::Moves::last_open_move_of, crate::specs::Moves::moved_from, crate::specs::Calendar::last_open_of, crate::specs::Calendar::check_of, refusal::specs::Answer::need, refusal::specs::Answer::then))]
+pub fn month_end(date: Date, mask: u8, closed: &[u32]) -> Result<Moved, Refusal>
+    ensures { answered result ≡ last_open_move_of mask closed.now date }
 {
-    let day = date.day;
-    if !in_book(day) {
-        return Moved::Refused(refusal::BOOK);
-    }
-    if !is_sound(mask, closed) {
-        return Moved::Refused(refusal::CALENDAR);
-    }
+    let day = date.booked()?;
+    check(mask, closed)?;
     month_ends::last_open(day, mask, closed)
 }
 
 // Whether the date is the last open day of its month, or after it. The empty date is not.
-pub fn is_month_end(date: Date, mask: u8, closed: &[u32]) -> Decided
-    ensures { decided result ≡ is_month_end_of mask closed.now date.day }
+#[tactic(auto, unfolding(crate::specs::Calendar::is_month_end_of, crate::specs::Calendar::unless_empty, crate::specs::Calendar::check_of, refusal::specs::Answer::need))]
+pub fn is_month_end(date: Date, mask: u8, closed: &[u32]) -> Result<bool, Refusal>
+    ensures { answered result ≡ is_month_end_of mask closed.now date }
 {
-    let day = date.day;
-    if day == 0 {
-        if !is_sound(mask, closed) {
-            return Decided::Refused(refusal::CALENDAR);
-        }
-        return Decided::No;
+    if date.day == 0 {
+        check(mask, closed)?;
+        return Ok(false);
     }
-    if !in_book(day) {
-        return Decided::Refused(refusal::BOOK);
-    }
-    if !is_sound(mask, closed) {
-        return Decided::Refused(refusal::CALENDAR);
-    }
+    let day = date.booked()?;
+    check(mask, closed)?;
     month_ends::at_month_end(day, mask, closed)
 }
 
 // The date moved by the period: days are open days, the other units are added and adjusted. The days are those from the sum to it, or from the
 // sum's month end where the month end is given.
+#[tactic(auto, unfolding(crate::specs::Moves::advance_move_of, crate::specs::Moves::moved_from, crate::specs::Calendar::advanced_of, crate::specs::Calendar::check_of, refusal::specs::Answer::need, refusal::specs::Answer::then))]
 pub fn advance(
     date: Date,
     tenor: Period,
@@ -153,21 +145,16 @@ pub fn advance(
     monthend: bool,
     mask: u8,
     closed: &[u32],
-) -> Moved
-    ensures { moved result ≡ advance_move_of mask closed.now tenor.length tenor.unit convention monthend date.day }
+) -> Result<Moved, Refusal>
+    ensures { answered result ≡ advance_move_of mask closed.now tenor.length tenor.unit convention monthend date }
 {
-    let day = date.day;
-    if !in_book(day) {
-        return Moved::Refused(refusal::BOOK);
-    }
-    if !is_sound(mask, closed) {
-        return Moved::Refused(refusal::CALENDAR);
-    }
+    let day = date.booked()?;
+    check(mask, closed)?;
     let back = sign::is_negative(tenor.length);
     let size = sign::size(tenor.length);
     let unit = tenor.unit;
     if !is_short(size, unit) {
-        return Moved::Refused(refusal::TENOR);
+        return Err(Refusal::Tenor);
     }
     advances::advance(day, back, size, unit, convention, monthend, mask, closed)
 }

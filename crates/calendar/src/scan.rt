@@ -1,18 +1,20 @@
 // Open days by the mask and the list of closed dates: a single day, and the first of thirty-one either way. It costs the logarithm of the
 // list and at most thirty-one steps. A day's place is the first in the list whose date is at least the day, or the length.
 ghost use Rattle.std.specs.Prelude.{◌≡◌, true, false, ◌≤◌};
-ghost use Rattle.date.specs.Date.{SPAN_FIRST, SPAN_LAST, dated};
-ghost use Rattle.calendar.specs.declared.Convention.TheVariants.{Following, Preceding};
+ghost use Rattle.refusal.specs.Answer.{answered};
+ghost use Rattle.date.specs.Date.{SPAN_FIRST, SPAN_LAST};
 ghost use Rattle.calendar.specs.Open.{is_open_day, closed_ok};
 ghost use Rattle.calendar.specs.Inner.Places.{LowerBound};
-ghost use Rattle.calendar.specs.Adjust.{in_span, first_open, adjusted};
+ghost use Rattle.calendar.specs.Adjust.{in_span, first_open, towards, adjusted};
 
 use crate::{closed_dates, weekdays};
-use date::{Date, Dated, span};
+use date::{Date, span};
+use refusal::Refusal;
 
 // How many days a search tries.
 const TRIES: u32 = 31;
 
+#[tactic(auto, unfolding(crate::specs::AnyCalendar::in_span))]
 pub(crate) fn in_span(day: u32) -> bool
     ensures { result ≡ in_span day }
 {
@@ -20,6 +22,7 @@ pub(crate) fn in_span(day: u32) -> bool
 }
 
 // Whether a day is open, told at its place.
+#[tactic(auto, using(crate::proofs::Ways::single_at, crate::proofs::Ways::single_end, crate::proofs::Ways::single_week))]
 pub(crate) fn is_open_at(place: usize, day: u32, mask: u8, closed: &[u32]) -> bool
     requires { LowerBound closed.now day place }
     ensures { closed_ok closed.now ≡ true → result ≡ is_open_day mask closed.now day }
@@ -40,17 +43,19 @@ pub(crate) fn is_open(day: u32, mask: u8, closed: &[u32]) -> bool
 }
 
 // The first open day of as many as are tried, from `day` on. The scan of the closed dates starts at its place and never goes back.
-fn ahead(place: usize, day: u32, tries: u32, mask: u8, closed: &[u32]) -> Dated
+
+fn ahead(place: usize, day: u32, tries: u32, mask: u8, closed: &[u32]) -> Result<Date, Refusal>
     requires { (SPAN_FIRST ≤ day) × (day ≤ SPAN_LAST) × (tries ≤ 31) × LowerBound closed.now day place }
-    ensures { closed_ok closed.now ≡ true → dated result ≡ first_open mask closed.now false tries day }
+    ensures { closed_ok closed.now ≡ true → answered result ≡ first_open mask closed.now false tries day }
 {
     let mut at = place;
     let mut d = day;
     let mut left = tries;
     let mut weekday = weekdays::weekday_of(day);
+    // A loop that yields the day, over a scan that is left by label: 01 names this form.
     let open = 'days: loop {
         if left == 0 {
-            return Dated::Refused(refusal::CLOSED);
+            return Err(Refusal::Closed);
         }
         let here = d;
         let shut = weekdays::is_masked(weekday, mask);
@@ -72,21 +77,23 @@ fn ahead(place: usize, day: u32, tries: u32, mask: u8, closed: &[u32]) -> Dated
         }
         break here;
     };
-    Dated::Day(Date { day: open })
+    Ok(Date { day: open })
 }
 
 // The mirror: the first open day of as many as are tried, from `day` back.
-fn behind(place: usize, day: u32, tries: u32, mask: u8, closed: &[u32]) -> Dated
+
+fn behind(place: usize, day: u32, tries: u32, mask: u8, closed: &[u32]) -> Result<Date, Refusal>
     requires { (SPAN_FIRST ≤ day) × (day ≤ SPAN_LAST) × (tries ≤ 31) × LowerBound closed.now day place }
-    ensures { closed_ok closed.now ≡ true → dated result ≡ first_open mask closed.now true tries day }
+    ensures { closed_ok closed.now ≡ true → answered result ≡ first_open mask closed.now true tries day }
 {
     let mut at = closed_dates::place_after(closed, day, place);
     let mut d = day;
     let mut left = tries;
     let mut weekday = weekdays::weekday_of(day);
+    // A loop that yields the day, over a scan that is left by label: 01 names this form.
     let open = 'days: loop {
         if left == 0 {
-            return Dated::Refused(refusal::CLOSED);
+            return Err(Refusal::Closed);
         }
         let here = d;
         let shut = weekdays::is_masked(weekday, mask);
@@ -108,50 +115,64 @@ fn behind(place: usize, day: u32, tries: u32, mask: u8, closed: &[u32]) -> Dated
         }
         break here;
     };
-    Dated::Day(Date { day: open })
+    Ok(Date { day: open })
+}
+
+// The first open day of as many as are tried, from a day whose place is known, on or back.
+#[tactic(auto, using(crate::proofs::Ways::this_way))]
+fn first_from(
+    place: usize,
+    day: u32,
+    back: bool,
+    tries: u32,
+    mask: u8,
+    closed: &[u32],
+) -> Result<Date, Refusal>
+    requires { (SPAN_FIRST ≤ day) × (day ≤ SPAN_LAST) × (tries ≤ 31) × LowerBound closed.now day place }
+    ensures { closed_ok closed.now ≡ true → answered result ≡ first_open mask closed.now back tries day }
+{
+    if back {
+        behind(place, day, tries, mask, closed)
+    } else {
+        ahead(place, day, tries, mask, closed)
+    }
 }
 
 // The first open day of at most thirty-one, from a day on, or back.
-pub fn first_open(day: u32, back: bool, tries: u32, mask: u8, closed: &[u32]) -> Dated
-    ensures { closed_ok closed.now ≡ true → in_span day ≡ true → tries ≤ 31 → dated result ≡ first_open mask closed.now back tries day }
+pub fn first_open(
+    day: u32,
+    back: bool,
+    tries: u32,
+    mask: u8,
+    closed: &[u32],
+) -> Result<Date, Refusal>
+    ensures { closed_ok closed.now ≡ true → in_span day ≡ true → tries ≤ 31 → answered result ≡ first_open mask closed.now back tries day }
 {
     if !in_span(day) {
-        return Dated::Refused(refusal::BOOK);
+        return Err(Refusal::Book);
     }
     if TRIES < tries {
-        return Dated::Refused(refusal::CLOSED);
+        return Err(Refusal::Closed);
     }
     let place = closed_dates::lower_bound(closed, day);
-    if back {
-        return behind(place, day, tries, mask, closed);
-    }
-    ahead(place, day, tries, mask, closed)
+    first_from(place, day, back, tries, mask, closed)
 }
 
-pub(crate) fn following_from(place: usize, day: u32, mask: u8, closed: &[u32]) -> Dated
+// Following, or Preceding, from a day whose place is known.
+#[tactic(auto, using(crate::specs::Laws::Search::as_search), unfolding(crate::specs::AnyCalendar::in_span, refusal::specs::Answer::need, refusal::specs::Answer::then))]
+pub(crate) fn look(
+    place: usize,
+    day: u32,
+    back: bool,
+    mask: u8,
+    closed: &[u32],
+) -> Result<Date, Refusal>
     requires { LowerBound closed.now day place }
-    ensures { closed_ok closed.now ≡ true → dated result ≡ adjusted mask closed.now Following day }
+    ensures { closed_ok closed.now ≡ true → answered result ≡ adjusted mask closed.now (towards back) day }
 {
     if !in_span(day) {
-        return Dated::Refused(refusal::BOOK);
+        return Err(Refusal::Book);
     }
-    let first = ahead(place, day, TRIES, mask, closed);
-    match first {
-        Dated::Day(open) => span::within(open.day as u64),
-        Dated::Refused(n) => Dated::Refused(n),
-    }
-}
-
-pub(crate) fn preceding_from(place: usize, day: u32, mask: u8, closed: &[u32]) -> Dated
-    requires { LowerBound closed.now day place }
-    ensures { closed_ok closed.now ≡ true → dated result ≡ adjusted mask closed.now Preceding day }
-{
-    if !in_span(day) {
-        return Dated::Refused(refusal::BOOK);
-    }
-    let first = behind(place, day, TRIES, mask, closed);
-    match first {
-        Dated::Day(open) => span::within(open.day as u64),
-        Dated::Refused(n) => Dated::Refused(n),
-    }
+    let open = first_from(place, day, back, TRIES, mask, closed)?;
+    span::within(open.day as u64)
 }

@@ -1,19 +1,18 @@
 // Adjusted days from 1800-01-01 to 2399-12-31, for the crates above: on a list of closed dates that the caller has checked. One day by itself, or
 // one day after another, each with what the day before it told.
 ghost use Rattle.std.specs.Prelude.{◌≡◌, true, ◌&&◌, leb};
-ghost use Rattle.refusal.specs.Answer.{given};
-ghost use Rattle.date.specs.Date.{dated};
+ghost use Rattle.refusal.specs.Answer.{answered, given};
 ghost use Rattle.calendar.specs.Inner.Always.{convention_on};
 ghost use Rattle.calendar.specs.declared.Convention.TheVariants.{ModifiedFollowing};
 ghost use Rattle.calendar.specs.Open.{closed_ok};
 ghost use Rattle.calendar.specs.Inner.Places.{LowerBound};
 ghost use Rattle.calendar.specs.Adjust.{adjusted};
-ghost use Rattle.calendar.specs.Calendar.{placed};
-ghost use Rattle.calendar.specs.Moves.{moved, moved_from};
-ghost use Rattle.calendar.specs.Inner.Near.{OneMonth, Known, Adjusts, Measured, Tells};
+ghost use Rattle.calendar.specs.Moves.{moved_from};
+ghost use Rattle.calendar.specs.Inner.Near.{placed, OneMonth, Known, Adjusts, Measured, Tells};
 
 use crate::{Convention, Moved, closed_dates, conventions, months, moves, scan};
-use date::{Date, Dated};
+use date::Date;
+use refusal::Refusal;
 
 // What is known beside a day that was adjusted: a guess at the place of a day near it, and the first and the last of days that lie in
 // one month, none if the first is the later one.
@@ -36,15 +35,15 @@ impl Near {
 // What an adjustment answers, and what is then known for a day near the one that was adjusted.
 #[derive(Clone, Copy)]
 pub struct Told {
-    pub moved: Moved,
+    pub moved: Result<Moved, Refusal>,
     pub near: Near,
 }
 
 // The date that a search found, and what is then known.
-#[derive(Drop)]
-enum Placed {
-    Day { day: u32, near: Near },
-    Refused(u8),
+#[derive(Clone, Copy)]
+struct Placed {
+    day: u32,
+    near: Near,
 }
 
 // Whether two days, the earlier one first, are known to lie in one month.
@@ -54,18 +53,20 @@ fn is_known(near: Near, earlier: u32, later: u32) -> bool
     near.from <= earlier && later <= near.to
 }
 
-fn with_near(found: Dated, near: Near) -> Placed
-    ensures { (placed result ≡ dated found) × (OneMonth near.from near.to → Known result) }
+#[tactic(auto, unfolding(crate::specs::Inner::Near::placed, crate::specs::Inner::Near::Known, refusal::specs::Answer::then))]
+fn with_near(found: Result<Date, Refusal>, near: Near) -> Result<Placed, Refusal>
+    ensures { (placed result ≡ answered found) × (OneMonth near.from near.to → Known result) }
 {
-    match found {
-        Dated::Day(d) => Placed::Day { day: d.day, near },
-        Dated::Refused(n) => Placed::Refused(n),
-    }
+    let date = found?;
+    Ok(Placed {
+        day: date.day,
+        near,
+    })
 }
 
 // The adjustment. An open day is its own adjusted date, so only a closed one is searched from.
-pub fn adjust(day: u32, convention: Convention, mask: u8, closed: &[u32]) -> Moved
-    ensures { closed_ok closed.now ≡ true → moved result ≡ moved_from (given day) (adjusted mask closed.now convention day) }
+pub fn adjust(day: u32, convention: Convention, mask: u8, closed: &[u32]) -> Result<Moved, Refusal>
+    ensures { closed_ok closed.now ≡ true → answered result ≡ moved_from (given day) (adjusted mask closed.now convention day) }
 {
     match convention {
         Convention::Unadjusted => moves::stay(day),
@@ -83,39 +84,37 @@ pub fn adjust(day: u32, convention: Convention, mask: u8, closed: &[u32]) -> Mov
 }
 
 // Modified Following where days of one month may be known. Else the later day's month is split, and is then known up to that day.
-fn follow_near(near: Near, day: u32, mask: u8, closed: &[u32]) -> Placed
+fn follow_near(near: Near, day: u32, mask: u8, closed: &[u32]) -> Result<Placed, Refusal>
     requires { LowerBound closed.now day near.place }
     ensures { closed_ok closed.now ≡ true → OneMonth near.from near.to → Adjusts mask closed.now ModifiedFollowing day result }
 {
     let place = near.place;
-    let first = scan::following_from(place, day, mask, closed);
-    match first {
-        Dated::Refused(n) => Placed::Refused(n),
-        Dated::Day(later) => {
-            if is_known(near, day, later.day) {
-                return Placed::Day {
-                    day: later.day,
-                    near,
-                };
-            }
-            let from = months::month_start(later.day);
-            if from <= day {
-                return Placed::Day {
-                    day: later.day,
-                    near: Near {
-                        place,
-                        from,
-                        to: later.day,
-                    },
-                };
-            }
-            with_near(scan::preceding_from(place, day, mask, closed), near)
-        }
+    let later = scan::look(place, day, false, mask, closed)?.day;
+    if is_known(near, day, later) {
+        return Ok(Placed { day: later, near });
     }
+    let from = months::month_start(later);
+    if from <= day {
+        return Ok(Placed {
+            day: later,
+            near: Near {
+                place,
+                from,
+                to: later,
+            },
+        });
+    }
+    with_near(scan::look(place, day, true, mask, closed), near)
 }
 
 // A search where something may be known. Modified Following is the common convention, and alone uses what is known of a month.
-fn search_near(near: Near, day: u32, convention: Convention, mask: u8, closed: &[u32]) -> Placed
+fn search_near(
+    near: Near,
+    day: u32,
+    convention: Convention,
+    mask: u8,
+    closed: &[u32],
+) -> Result<Placed, Refusal>
     requires { LowerBound closed.now day near.place }
     ensures { closed_ok closed.now ≡ true → OneMonth near.from near.to → Adjusts mask closed.now convention day result }
 {
@@ -129,19 +128,17 @@ fn search_near(near: Near, day: u32, convention: Convention, mask: u8, closed: &
 }
 
 // How far the date that was found lies from the day that it was looked for from.
-fn measure(day: u32, found: Placed, near: Near) -> Told
+#[tactic(auto, using(crate::specs::Laws::Moved::unmoved), unfolding(crate::specs::Inner::Near::Known, crate::specs::Inner::Near::placed, refusal::specs::Answer::then))]
+fn measure(day: u32, found: Result<Placed, Refusal>, near: Near) -> Told
     ensures { Measured day found near result }
 {
     match found {
-        Placed::Day {
-            day: d,
-            near: beside,
-        } => Told {
-            moved: moves::to(day, Dated::Day(Date { day: d })),
-            near: beside,
+        Ok(placed) => Told {
+            moved: moves::to(day, Ok(Date { day: placed.day })),
+            near: placed.near,
         },
-        Placed::Refused(n) => Told {
-            moved: Moved::Refused(n),
+        Err(r) => Told {
+            moved: Err(r),
             near,
         },
     }
@@ -175,6 +172,7 @@ pub fn adjust_near(day: u32, near: Near, convention: Convention, mask: u8, close
 }
 
 // The convention, or none where no day is closed, which comes to the same and needs no look at the calendar.
+#[tactic(auto, unfolding(crate::specs::Inner::Always::convention_on))]
 pub fn convention_on(convention: Convention, mask: u8, closed: &[u32]) -> Convention
     ensures { result ≡ convention_on mask closed.now convention }
 {

@@ -32,6 +32,7 @@ pub(crate) fn is_masked(weekday: u32, mask: u8) -> bool
     (mask >> weekday) % 2 == 1
 }
 
+#[tactic(auto, unfolding(crate::specs::Open::weekly_closed))]
 pub(crate) fn weekly_closed(day: u32, mask: u8) -> bool
     ensures { result ≡ weekly_closed mask day }
 {

@@ -1,17 +1,20 @@
 // Schedules, from a request in numbers. C hands a request over field by field, so that its functions here have more than eight
 // parameters.
 ghost use Rattle.std.specs.Prelude.{◌≡◌};
-ghost use Rattle.refusal.specs.Answer.{then};
-ghost use Rattle.coming.specs.Coming.{coming_of};
+ghost use Rattle.refusal.specs.Answer.{answered, then};
+ghost use Rattle.coming.specs.Coming.{coming_of, meant};
 ghost use Rattle.crossing.specs.Answers.{one_number_of, marked};
 ghost use Rattle.request.specs.Format.{decoded};
 ghost use Rattle.recorded.specs.Bytes.{request_in, closed_in};
 ghost use Rattle.crossing.specs.Requests.{request_of};
 ghost use Rattle.recorded.specs.Builds.{Reported};
 
-use crossing::requests::FromNumbers;
-use crossing::{answers, requests};
+use coming::Coming;
+use crossing::answers::one_number;
+use crossing::requests;
 use date::Date;
+use refusal::Refusal;
+use steps::Request;
 
 // Builds a schedule: the dates into the start of `dates`, the flags of the periods between them (1 regular) into the start
 // of `flags`, each date's unadjusted one into the start of `unadjusted`, and the count of dates is answered. The start of `answer` then holds the refusal's number or 0, the count of
@@ -65,6 +68,13 @@ pub fn heronspan_build_bytes(
     recorded::build_bytes(bytes, dates, flags, unadjusted, answer)
 }
 
+#[tactic(auto, unfolding(refusal::specs::Answer::then, coming::specs::Coming::meant))]
+fn after(request: Result<Request, Refusal>, closed: &[u32], asked: u32) -> Result<Coming, Refusal>
+    ensures { meant result ≡ then (answered request) (λ q. coming_of q closed.now asked) }
+{
+    coming::after(request?, closed, Date { day: asked })
+}
+
 // The first date after the asked day of the schedule of a request in numbers, without the schedule: 0 where there is no later
 // date, else the day times 4, and 0 where the period that it ends is irregular, 1 where it is regular, 2 where it ends none.
 pub fn heronspan_coming(
@@ -97,8 +107,5 @@ pub fn heronspan_coming(
         penultimate,
         mask,
     );
-    match request {
-        FromNumbers::Is(q) => answers::of_coming(coming::after(q, closed, Date { day: asked })),
-        FromNumbers::Refused(n) => answers::minus(n),
-    }
+    one_number(after(request, closed, asked))
 }

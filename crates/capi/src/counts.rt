@@ -6,20 +6,19 @@ ghost use Rattle.date.specs.Date.{difference_of};
 ghost use Rattle.crossing.specs.Answers.{FirstPlace, length_in};
 ghost use Rattle.crossing.specs.Numbers.{unit_of};
 
-use crossing::counts;
+use crossing::counts::{self, put_count};
 use date::Date;
 
 // How many days the first day lies after the second.
 pub fn heronspan_difference(a: u32, b: u32, days: &mut [i32]) -> i64
     ensures { FirstPlace (difference_of a b) result days.old days.new }
 {
-    let date = Date { day: a };
-    counts::put_counted(date.difference(Date { day: b }), days)
+    put_count(Date { day: a }.difference(Date { day: b }), days)
 }
 
 // The length of a tenor that is taken `count` times; its unit stays.
 pub fn heronspan_times(tenor: i32, unit: u8, count: i32, out: &mut [i32]) -> i64
     ensures { FirstPlace (then (unit_of unit) (λ u. length_in (times_of tenor u count))) result out.old out.new }
 {
-    counts::put_counted(counts::times(tenor, unit, count), out)
+    put_count(counts::times(tenor, unit, count), out)
 }

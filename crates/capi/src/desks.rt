@@ -6,26 +6,27 @@ ghost use Rattle.crossing.specs.Numbers.{convention_of};
 ghost use Rattle.desk.specs.Desk.{entries_in, run_of, asked_of, adjust_over_move_of, combined, combine_of, lent_after};
 ghost use Rattle.desk.specs.Runs.{count_of, Written};
 
-use calendar::Moved;
-use crossing::{NamedConvention, answers, counts};
+use crossing::answers::one_number;
+use crossing::counts::put_count;
 use date::Date;
 
 // 0 where the run of the year is answered.
 pub fn heronspan_desk_check(desk: &[u32], house: &[u32], year: u32) -> i64
     ensures { result ≡ one_number_of done (asked_of desk.now house.now year) }
 {
-    answers::of_checked(desk::check(desk, house, year))
+    one_number(desk::check(desk, house, year))
 }
 
 // How many entries the run of the year has; the list that it stands in and where it starts are written to the first two places.
 pub fn heronspan_desk_run(desk: &[u32], house: &[u32], year: u32, place: &mut [u32]) -> i64
     ensures { (result ≡ one_number_of itself (count_of desk.now house.now year (length place.old))) × Written (count_of desk.now house.now year (length place.old)) (run_of desk.now house.now year) (entries_in year desk.now) desk.now house.now place.old place.new }
 {
-    answers::of_numbered(desk::write_place(desk, house, year, place))
+    one_number(desk::write_place(desk, house, year, place))
 }
 
 // The day adjusted by a convention, each day that is tried open or closed by the run of its own year; the days that it moved are written to the
 // first place.
+#[tactic(auto, unfolding(refusal::specs::Answer::then))]
 pub fn heronspan_desk_adjust<'a>(
     day: u32,
     convention: u8,
@@ -36,18 +37,16 @@ pub fn heronspan_desk_adjust<'a>(
 ) -> i64
     ensures { MovePlace (then (convention_of convention) (λ c. adjust_over_move_of mask desk.now house.now c day)) result moved.old moved.new }
 {
-    let named = crossing::convention_of(convention);
-    match named {
-        NamedConvention::Is(c) => {
-            counts::put_moved(desk::adjust(Date { day }, c, mask, desk, house), moved)
-        }
-        NamedConvention::Refused(n) => counts::put_moved(Moved::Refused(n), moved),
-    }
+    let date = Date { day };
+    let adjusted = crossing::convention_of(convention).and_then(|convention| desk::adjust(
+        date, convention, mask, desk, house,
+    ));
+    put_count(adjusted, moved)
 }
 
 // The combined list over the start of a lent list, and how many entries it has.
 pub fn heronspan_desk_combine(desk: &[u32], house: &[u32], closed: &mut [u32]) -> i64
     ensures { (result ≡ one_number_of itself (combine_of desk.now house.now (length closed.old))) × (closed.new ≡ lent_after (combine_of desk.now house.now (length closed.old)) (combined desk.now house.now) closed.old) }
 {
-    answers::of_numbered(desk::combine(desk, house, closed))
+    one_number(desk::combine(desk, house, closed))
 }

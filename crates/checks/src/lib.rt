@@ -1,13 +1,13 @@
 // The input checks of a build: the rows 1 to 12 of document 01's table, in its order, and 27 behind them.
-#![tactic(auto)]
+#![tactic(auto, unfolding(steps::specs::Table::number_or, steps::specs::Table::anchor_ok, steps::specs::Table::dates_ok, steps::specs::Table::first_outside, steps::specs::Table::last_outside, steps::specs::Table::monthend_allowed, steps::specs::Table::short_end, steps::specs::Table::first_rows, steps::specs::Table::last_rows, steps::specs::Rules::one_of, steps::specs::Rules::rule_number, refusal::specs::Answer::number))]
 
 ghost use Rattle.std.specs.Prelude.{◌≡◌, not, false, ◌&&◌};
-ghost use Rattle.calendar.specs.Open.{calendar_ok};
-ghost use Rattle.imm.specs.Imm.{is_imm_date};
+ghost use Rattle.refusal.specs.Answer.{answered, number};
+ghost use Rattle.refusal.specs.Refusals.{number_of};
 ghost use Rattle.steps.specs.Table.{number_or, first_row, anchor_ok, dates_ok, first_outside, last_outside, monthend_allowed, short_end, anchor_rows, first_rows, last_rows, rows_under, input_rows};
 
-use calendar::Checked;
 use date::in_book;
+use refusal::Refusal;
 use steps::{Request, Rule, rules};
 
 // The lengths of tenors.
@@ -17,45 +17,26 @@ mod tenors;
 fn anchor_ok(anchor: u32) -> bool
     ensures { result ≡ anchor_ok anchor }
 {
-    if anchor == 0 {
-        return true;
-    }
-    in_book(anchor)
+    anchor == 0 || in_book(anchor)
 }
 
-fn dates_ok(q: Request) -> bool
-    ensures { result ≡ dates_ok q }
+fn dates_ok(q: &Request) -> bool
+    ensures { result ≡ dates_ok q.now }
 {
-    if in_book(q.effective.day) {
-        if in_book(q.termination.day) {
-            if anchor_ok(q.first.day) {
-                return anchor_ok(q.penultimate.day);
-            }
-            return false;
-        }
-        return false;
-    }
-    false
+    in_book(q.effective.day)
+        && in_book(q.termination.day)
+        && anchor_ok(q.first.day)
+        && anchor_ok(q.penultimate.day)
 }
 
-fn calendar_ok(mask: u8, closed: &[u32]) -> bool
-    ensures { result ≡ calendar_ok mask closed.now }
-{
-    let answer = calendar::check(mask, closed);
-    match answer {
-        Checked::Sound => true,
-        Checked::Refused(_) => false,
-    }
-}
-
-fn first_outside(q: Request) -> bool
-    ensures { result ≡ first_outside q }
+fn first_outside(q: &Request) -> bool
+    ensures { result ≡ first_outside q.now }
 {
     q.first.day <= q.effective.day || q.termination.day < q.first.day
 }
 
-fn last_outside(q: Request) -> bool
-    ensures { result ≡ last_outside q }
+fn last_outside(q: &Request) -> bool
+    ensures { result ≡ last_outside q.now }
 {
     q.penultimate.day <= q.effective.day || q.termination.day <= q.penultimate.day
 }
@@ -63,135 +44,121 @@ fn last_outside(q: Request) -> bool
 fn allows_month_end(rule: Rule) -> bool
     ensures { result ≡ monthend_allowed rule }
 {
-    match rule {
-        Rule::Zero | Rule::Backward | Rule::Forward => true,
-        _ => false,
-    }
+    matches!(rule, Rule::Zero | Rule::Backward | Rule::Forward)
 }
 
 // End of month is on, and the rule has none.
-fn denies_month_end(q: Request, rule: Rule) -> bool
-    ensures { result ≡ (q.monthend && not (monthend_allowed rule)) }
+fn denies_month_end(q: &Request, rule: Rule) -> bool
+    ensures { result ≡ (q.now.monthend && not (monthend_allowed rule)) }
 {
-    if q.monthend {
-        return !allows_month_end(rule);
-    }
-    false
+    q.monthend && !allows_month_end(rule)
 }
 
 // End of month is on, with a tenor that counts days.
-fn is_short_end(q: Request, rule: Rule) -> bool
-    ensures { result ≡ short_end q rule }
+fn is_short_end(q: &Request, rule: Rule) -> bool
+    ensures { result ≡ short_end q.now rule }
 {
-    if q.monthend {
-        let tenor = q.tenor;
-        if tenors::is_positive(tenor) {
-            let unit = tenor.unit;
-            if tenors::is_in_days(unit) {
-                return !rules::is_zero(rule);
-            }
-            return false;
-        }
-        return false;
-    }
-    false
+    q.monthend
+        && tenors::is_positive(q.tenor)
+        && tenors::is_in_days(q.tenor.unit)
+        && !rules::is_zero(rule)
 }
 
-fn number_if(holds: bool, number: u8) -> u8
-    ensures { result ≡ number_or holds number 0 }
+fn refuse_if(holds: bool, refusal: Refusal) -> Result<(), Refusal>
+    ensures { number (answered result) ≡ number_or holds (number_of refusal) 0 }
 {
-    if holds { number } else { 0 }
+    if holds { Err(refusal) } else { Ok(()) }
 }
 
-fn unless_imm(anchor: u32, number: u8) -> u8
-    ensures { result ≡ number_or (not (is_imm_date false anchor)) number 0 }
-{
-    if imm::is_imm_day(anchor, false) {
-        return 0;
-    }
-    number
-}
-
-// The rows of one anchor, numbered as given: out of range, not an IMM date, wrong rule.
-fn anchor_refusal(rule: Rule, anchor: u32, outside: bool, range: u8, imm: u8, wrong: u8) -> u8
-    ensures { result ≡ first_row (anchor_rows rule anchor outside range imm wrong) }
+// The rows of one anchor: out of range, not an IMM date, wrong rule.
+fn check_anchor(
+    rule: Rule,
+    anchor: u32,
+    outside: bool,
+    range: Refusal,
+    not_imm: Refusal,
+    wrong: Refusal,
+) -> Result<(), Refusal>
+    ensures { number (answered result) ≡ first_row (anchor_rows rule anchor outside (number_of range) (number_of not_imm) (number_of wrong)) }
 {
     if anchor == 0 {
-        return 0;
+        return Ok(());
     }
     match rule {
-        Rule::Backward | Rule::Forward => number_if(outside, range),
-        Rule::ThirdWednesday => unless_imm(anchor, imm),
-        _ => wrong,
+        Rule::Backward | Rule::Forward => refuse_if(outside, range),
+        Rule::ThirdWednesday => refuse_if(!imm::is_imm_day(anchor, false), not_imm),
+        _ => Err(wrong),
     }
 }
 
-fn first_refusal(q: Request, rule: Rule) -> u8
-    ensures { result ≡ first_row (first_rows q rule) }
+fn check_first(q: &Request, rule: Rule) -> Result<(), Refusal>
+    ensures { number (answered result) ≡ first_row (first_rows q.now rule) }
 {
-    anchor_refusal(
+    check_anchor(
         rule,
         q.first.day,
         first_outside(q),
-        refusal::FIRST_DATE,
-        refusal::FIRST_NOT_IMM,
-        refusal::FIRST_WRONG_RULE,
+        Refusal::FirstDate,
+        Refusal::FirstNotImm,
+        Refusal::FirstWrongRule,
     )
 }
 
-fn last_refusal(q: Request, rule: Rule) -> u8
-    ensures { result ≡ first_row (last_rows q rule) }
+fn check_last(q: &Request, rule: Rule) -> Result<(), Refusal>
+    ensures { number (answered result) ≡ first_row (last_rows q.now rule) }
 {
-    anchor_refusal(
+    check_anchor(
         rule,
         q.penultimate.day,
         last_outside(q),
-        refusal::LAST_DATE,
-        refusal::LAST_NOT_IMM,
-        refusal::LAST_WRONG_RULE,
+        Refusal::LastDate,
+        Refusal::LastNotImm,
+        Refusal::LastWrongRule,
     )
 }
 
 // The rows that read the rule in force, 6 to 12 and 27.
-fn refusal_under(q: Request, rule: Rule) -> u8
-    ensures { result ≡ first_row (rows_under q rule) }
+fn check_under(q: &Request, rule: Rule) -> Result<(), Refusal>
+    ensures { number (answered result) ≡ first_row (rows_under q.now rule) }
 {
-    let first = first_refusal(q, rule);
-    if first != 0 {
-        return first;
-    }
-    let last = last_refusal(q, rule);
-    if last != 0 {
-        return last;
-    }
+    check_first(q, rule)?;
+    check_last(q, rule)?;
     if denies_month_end(q, rule) {
-        return refusal::MONTHEND;
+        return Err(Refusal::MonthEnd);
     }
     if is_short_end(q, rule) {
-        return refusal::SHORTEND;
+        return Err(Refusal::ShortEnd);
     }
-    0
+    Ok(())
 }
 
-// The number of the first row that holds, or 0: `dates` and `flags` are the lengths of the lent lists.
+// The first row that holds refuses: `dates` and `flags` are the lengths of the lent lists.
+pub fn check(q: Request, closed: &[u32], dates: usize, flags: usize) -> Result<(), Refusal>
+    ensures { number (answered result) ≡ first_row (input_rows q closed.now dates flags) }
+{
+    let q = &q;
+    if dates != flags {
+        return Err(Refusal::Uneven);
+    }
+    if !dates_ok(q) {
+        return Err(Refusal::Book);
+    }
+    calendar::check(q.mask, closed)?;
+    if tenors::is_negative(q.tenor) {
+        return Err(Refusal::Negative);
+    }
+    if !tenors::is_short(q.tenor) {
+        return Err(Refusal::Tenor);
+    }
+    check_under(q, rules::rule_in_force(*q))
+}
+
+// The number of the first row that holds, or 0: `check` for who wants the number, as docs/LAW.md names it.
 pub fn input_refusal(q: Request, closed: &[u32], dates: usize, flags: usize) -> u8
     ensures { result ≡ first_row (input_rows q closed.now dates flags) }
 {
-    if dates != flags {
-        return refusal::UNEVEN;
+    match check(q, closed, dates, flags) {
+        Ok(()) => 0,
+        Err(refusal) => refusal.number(),
     }
-    if !dates_ok(q) {
-        return refusal::BOOK;
-    }
-    if !calendar_ok(q.mask, closed) {
-        return refusal::CALENDAR;
-    }
-    let tenor = q.tenor;
-    if tenors::is_negative(tenor) {
-        return refusal::NEGATIVE;
-    }
-    if !tenors::is_short(tenor) {
-        return refusal::TENOR;
-    }
-    refusal_under(q, rules::rule_in_force(q))
 }

@@ -18,20 +18,15 @@ pub(crate) fn is_positive(tenor: Period) -> bool
     0 < tenor.length
 }
 
+#[tactic(auto, unfolding(steps::specs::Table::in_days))]
 pub(crate) fn is_in_days(unit: Unit) -> bool
     ensures { result ≡ in_days unit }
 {
-    match unit {
-        Unit::Days => true,
-        Unit::Weeks => true,
-        Unit::Months => false,
-        Unit::Years => false,
-    }
+    matches!(unit, Unit::Days | Unit::Weeks)
 }
 
 pub(crate) fn is_short(tenor: Period) -> bool
     ensures { result ≡ tenor_ok (nat_abs tenor.length) tenor.unit }
 {
-    let unit = tenor.unit;
-    calendar::is_short(sign::size(tenor.length), unit)
+    calendar::is_short(sign::size(tenor.length), tenor.unit)
 }

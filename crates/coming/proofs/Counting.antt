@@ -1,19 +1,15 @@
 -- A law for each way through the functions that count whole tenors.
 -- Assumes nothing.
-use Prim.Native.Nat.{ℕ, ◌+◌, ◌-◌, ◌*◌, ◌/◌, ◌≤◌, ◌<◌}
+use Prim.Native.Nat.{ℕ, ◌+◌, ◌-◌, ◌*◌, ◌≤◌, ◌<◌}
 use mathlib.Core.Path.{◌≡◌, refl, ap, sym, ◌∙◌}
 use mathlib.Core.Bool.{Bool, true, false}
-use native.Mathlib.Nat.{div-zero, div-le_self}
+use native.Mathlib.Nat.{div-le_self}
 use native.Mathlib.Omega.{arith}
-use lib.Dec.{ltb}
 use borrow.Author.Rules.{rules}
 use Rattle.refusal.specs.Answer.{Answer}
-use Rattle.date.specs.declared.Date.{Date}
-use Rattle.date.specs.declared.Dated.{Dated}
 use Rattle.date.specs.declared.Fields.{Fields}
-use Rattle.date.specs.declared.Dated.TheVariants.{Day, Refused}
 use Rattle.date.specs.Civil.{pick_n, fields_of}
-use Rattle.date.specs.Date.{dated, month_index, in_month, step}
+use Rattle.date.specs.Date.{month_index, in_month, step}
 use Rattle.date.specs.Laws.Round.{fields_valid}
 use Rattle.date.specs.Laws.Moves.{valid_at, year_at_lem}
 use Rattle.steps.specs.declared.Pace.{Pace}
@@ -21,34 +17,6 @@ use Rattle.steps.specs.declared.Seed.{Seed}
 use Rattle.steps.specs.Candidates.{is_past}
 use Rattle.plain.specs.Most.{day_or}
 use Rattle.coming.specs.Laws.Counted.{apart, months_apart, most_months, most_from, tenors_from, Booked, Counts}
-
--- ---- by direction
-module _ (back : Bool) (a b : ℕ) where
-  pub apart_back : (r : ℕ) → back ≡ true → r ≡ a - b → r ≡ apart back a b
-  unfolding apart
-  apart_back r e h = rw e h
-
-  pub apart_on : (r : ℕ) → back ≡ false → r ≡ b - a → r ≡ apart back a b
-  unfolding apart
-  apart_on r e h = rw e h
-
-  pub past_back : (r : Bool) → back ≡ true → r ≡ ltb b a → r ≡ is_past back a b
-  unfolding is_past
-  past_back r e h = rw e h
-
-  pub past_on : (r : Bool) → back ≡ false → r ≡ ltb a b → r ≡ is_past back a b
-  unfolding is_past
-  past_on r e h = rw e h
-
--- ---- a day, or 0
-module _ (d : Dated) where
-  pub day_given : (x : Date) → d ≡ Day x → x.day ≡ day_or (dated d)
-  unfolding dated
-  day_given x e = rw e
-
-  pub day_none : (n : ℕ) → d ≡ Refused n → 0 ≡ day_or (dated d)
-  unfolding dated
-  day_none n e = rw e
 
 -- ---- the months between
 pub counts : (f : Fields) (n : ℕ) → f ≡ fields_of n → n < 4294967296 → Counts f
@@ -80,23 +48,7 @@ module _ (back : Bool) (seed : Seed) (near : ℕ) (f : Fields) (month gap : ℕ)
       unfolding most_months
       months_same e = rw (is_tested ∙ e) is_between
 
--- ---- days or months, and whole tenors
-module _ (back monthly : Bool) (seed : Seed) (near r : ℕ) where
-  pub most_months_lem : monthly ≡ true → r ≡ most_months back seed near → r ≡ most_from back monthly seed near
-  unfolding most_from
-  most_months_lem e h = rw e h
-
-  pub most_days : monthly ≡ false → r ≡ apart back seed.day near → r ≡ most_from back monthly seed near
-  unfolding most_from
-  most_days e h = rw e h
-
-pub none_whole : (count size : ℕ) → size ≡ 0 → 0 ≡ count / size
-none_whole count size e = rw e (sym (div-zero count))
-
-pub tenors_are : (back : Bool) (pace : Pace) (seed : Seed) (near m r : ℕ) → m ≡ most_from back pace.monthly seed near → r ≡ m / pace.size → r ≡ tenors_from back pace seed near
-tenors_are back pace seed near m r h k = k ∙ ap (λ (x : ℕ). x / pace.size) h
-
-pub ruleset counting = (apart_back, apart_on, past_back, past_on, day_given, day_none, most_months_lem, most_days, none_whole, tenors_are, rules)
+pub ruleset months = (counts, months_less, months_same, rules)
 
 -- ---- how many tenors there are
 month_few : (n : ℕ) → n ≤ 803169 → month_index n ≤ 803169

@@ -1,7 +1,7 @@
 -- A law for each way through the question, from its refusals to its answer.
 -- Assumes nothing.
 use Prim.Native.Nat.{ℕ, zero, suc, ◌+◌, ◌-◌, ◌*◌, ◌≤◌, ◌<◌}
-use mathlib.Core.Path.{◌≡◌, refl, ap, sym, ◌∙◌}
+use mathlib.Core.Path.{◌≡◌, refl, ap, sym, subst, ◌∙◌}
 use mathlib.Core.Logic.{◌⊎◌, inl, inr, ⊎_elim}
 use mathlib.Core.Bool.{Bool, true, false, false≢true, not, ◌&&◌}
 use mathlib.Core.List.{List, [], ◌∷◌}
@@ -14,20 +14,20 @@ use mir.Syntax.{w32}
 use mir.Val.{Fits}
 use borrow.Author.Rules.{rules}
 use borrow.Author.Tests.{ne_eqb, leb-true, le-leb, lt-leb, le-ltb, lt-ltb, not-true, not-false}
-use Rattle.refusal.specs.Answer.{Answer, given, refused, BOOK, CALENDAR, TENOR, NOTPLAIN}
-use Rattle.date.specs.declared.Date.{Date}
+use Rattle.std.specs.Prelude.{Result, Ok, Err, IsErr, IsErrAnd}
+use Rattle.refusal.specs.declared.Refusal.{Refusal}
+use Rattle.refusal.specs.Refusals.{number_of, of_number, in_table}
+use Rattle.refusal.specs.Refusals as table
+use Rattle.refusal.specs.Laws.Searched.{is_listed}
+use Rattle.refusal.specs.Answer.{Answer, given, refused, answered, number, BOOK, TENOR, NOTPLAIN}
 use Rattle.date.specs.declared.Fields.{Fields}
-use Rattle.date.specs.declared.Dated.{Dated}
-use Rattle.date.specs.declared.Dated.TheVariants.{Day, Refused}
 use Rattle.date.specs.Civil.{pick_n, fields_of}
-use Rattle.refusal.specs.Laws.Answers.{both, need_given, never_both, holds}
+use Rattle.refusal.specs.Laws.Answers.{both, handed}
 use Rattle.period.specs.Period.{is_negative}
-use Rattle.date.specs.Date.{dated, in_book, month_index}
+use Rattle.date.specs.Date.{in_book, month_index}
 use Rattle.date.specs.Laws.Moves.{book_le}
 use Rattle.calendar.specs.Open.{calendar_ok}
-use Rattle.calendar.specs.declared.Checked.{Checked}
-use Rattle.calendar.specs.declared.Checked.TheVariants as checked-is
-use Rattle.calendar.specs.Calendar.{sound, checked, check_of, tenor_ok}
+use Rattle.calendar.specs.Calendar.{tenor_ok}
 use Rattle.steps.specs.declared.Pace.{Pace}
 use Rattle.steps.specs.declared.Request.{Request}
 use Rattle.steps.specs.declared.Seed.{Seed}
@@ -37,58 +37,31 @@ use Rattle.steps.specs.Table.{Row, number_or, first_row, anchor_ok, dates_ok, an
 use Rattle.steps.specs.Laws.Table.{answer_is_none}
 use Rattle.working.specs.Paces.{pace, pace_checked}
 use Rattle.outcomes.specs.Laws.Span.{since}
-use Rattle.plain.specs.PlainTests.{is_straight}
 use Rattle.plain.specs.Laws.Checks.{not_negative}
 use Rattle.plain.specs.Most.{day_or}
 use Rattle.coming.specs.declared.Coming.{Coming}
 use Rattle.coming.specs.declared.Coming.TheVariants as coming
-use Rattle.coming.specs.Coming.{Comes, begins, comes, none_comes, pick_c, is_direct, is_answered, asked_rows, on_or, flag_by, comes_backward, comes_forward, comes_between, comes_after, unless_refused, coming_of, meant}
+use Rattle.coming.specs.Coming.{Comes, begins, comes, none_comes, pick_c, is_answered, asked_rows, on_or, flag_by, comes_backward, comes_forward, comes_between, comes_after, unless_refused, coming_of, said, meant}
 use Rattle.coming.specs.Laws.Counted.{tenors_from, behind_of, ahead_of, behind_is, ahead_is, Booked, SeedIn, behind_in, ahead_in}
 use Rattle.coming.specs.Laws.Straight.{Straight, backward, forward, straight, asked_numbered, answerable}
 use Rattle.coming.specs.Inner.Checked.{is_early, left_rows, Passed}
-use Rattle.coming.proofs.Counting.{tenors_few}
+use Rattle.coming.proofs.Counting.{tenors_few, counts}
 
--- ---- the class, and the rows of a build that are the question's too
-module _ (q : Request) where
-  pub not_direct : (t : Bool) → t ≡ is_direct q.rule → not t ≡ true → false ≡ is_answered q
-  not_direct t h e = rw (sym h ∙ not-true t e)
-
-  pub then_straight : (t r : Bool) → t ≡ is_direct q.rule → not t ≡ false → r ≡ is_straight q → r ≡ is_answered q
-  then_straight t r h e k = rw (sym h ∙ not-false t e) k
-
-pub none_early : (n : ℕ) → n ≡ 0 → false ≡ is_early n
+-- ---- a refusal has a number, and no row has number 0
+none_early : (n : ℕ) → n ≡ 0 → false ≡ is_early n
 unfolding is_early
 none_early n e = rw e
 
-pub some_early : (n : ℕ) (r : Bool) → (n ≡ 0 → ⊥) → r ≡ leb n 5 → r ≡ is_early n
+no_zero : in_table 0 ≡ false
+unfolding in_table of_number table.refusals table.pick
+no_zero = refl
+
+some_number : (r : Refusal) → number_of r ≡ 0 → ⊥
+some_number r z = absurd (false≢true (sym no_zero ∙ ap in_table (sym z) ∙ is_listed r))
+
+pub early_number : (r : Refusal) (n m : ℕ) → n ≡ number_of r → m ≡ TENOR → leb n m ≡ is_early (number_of r)
 unfolding is_early
-some_early n r h k = rw (ne_eqb n 0 h) k
-
-pub ruleset class_tests = (not_direct, then_straight, none_early, some_early, rules)
-
--- ---- the flag, and termination in place of a date that passes it
-module _ (d : Dated) (e : ℕ) where
-  pub regular_day : (x : Date) (r : Bool) → d ≡ Day x → r ≡ leb e x.day → pick_n r 1 0 ≡ flag_by (dated d) e
-  unfolding dated flag_by
-  regular_day x r h k = rw (h, k)
-
-  pub regular_none : (n : ℕ) → d ≡ Refused n → pick_n false 1 0 ≡ flag_by (dated d) e
-  unfolding dated flag_by
-  regular_none n h = rw h
-
-  pub on_kept : (x : Date) → d ≡ Day x → x.day ≤ e → meant (coming.Ending x true) ≡ given (on_or (dated d) e)
-  unfolding dated on_or meant
-  on_kept x h l = rw (h, le-leb x.day e l)
-
-  pub on_past : (x : Date) → d ≡ Day x → e < x.day → meant (coming.Ending (record { day = e }) false) ≡ given (on_or (dated d) e)
-  unfolding dated on_or meant
-  on_past x h l = rw (h, lt-leb x.day e l)
-
-  pub on_none : (n : ℕ) → d ≡ Refused n → meant (coming.Ending (record { day = e }) false) ≡ given (on_or (dated d) e)
-  unfolding dated on_or meant
-  on_none n h = rw h
-
-pub ruleset ends = (regular_day, regular_none, on_kept, on_past, on_none, rules)
+early_number r n m h k = rw (h, k, ne_eqb (number_of r) 0 (some_number r))
 
 -- ---- from a seed: one tenor more is a count that fits
 module _ (pace : Pace) (seed : Seed) (x : ℕ) (b : Booked seed x) (k : ℕ) where
@@ -98,60 +71,20 @@ module _ (pace : Pace) (seed : Seed) (x : ℕ) (b : Booked seed x) (k : ℕ) whe
   pub more_ahead : k ≡ tenors_from false pace seed x → Fits w32 (k + 1)
   more_ahead e = record { fits = omega (arith, tenors_few false pace seed x x k b (omega arith) e) }
 
-  pub behind_meant : (e day : ℕ) (a a' : Answer ℕ) (r : Bool) → k ≡ tenors_from true pace seed (x + 1) → a ≡ candidate true pace seed k → day ≡ day_or a → a' ≡ candidate true pace seed (k + 1) → pick_n r 1 0 ≡ flag_by a' e → meant (coming.Ending (record { day = day }) r) ≡ given (behind_of pace seed e x)
-  unfolding meant behind_of
-  behind_meant e day a a' r h c d c' f =
+  pub behind_said : (e day : ℕ) (a a' : Answer ℕ) (r : Bool) → k ≡ tenors_from true pace seed (x + 1) → a ≡ candidate true pace seed k → day ≡ day_or a → a' ≡ candidate true pace seed (k + 1) → pick_n r 1 0 ≡ flag_by a' e → said (coming.Ending day r) ≡ behind_of pace seed e x
+  unfolding said behind_of
+  behind_said e day a a' r h c d c' f =
       let u : day ≡ day_or (candidate true pace seed (tenors_from true pace seed (x + 1))) = d ∙ ap day_or (c ∙ ap (candidate true pace seed) h) in
       let v : pick_n r 1 0 ≡ flag_by (candidate true pace seed (suc (tenors_from true pace seed (x + 1)))) e = f ∙ ap (λ (z : Answer ℕ). flag_by z e) (c' ∙ ap (candidate true pace seed) (add-one k ∙ ap suc h)) in
-      λ i. given (comes (u i) (v i))
+      λ i. comes (u i) (v i)
 
-  pub ahead_meant : (t : ℕ) (a : Answer ℕ) (r : Coming) → k ≡ tenors_from false pace seed x → a ≡ candidate false pace seed (k + 1) → meant r ≡ given (on_or a t) → meant r ≡ given (ahead_of pace seed t x)
+  pub ahead_said : (t : ℕ) (a : Answer ℕ) (r : Coming) → k ≡ tenors_from false pace seed x → a ≡ candidate false pace seed (k + 1) → said r ≡ on_or a t → said r ≡ ahead_of pace seed t x
   unfolding ahead_of
-  ahead_meant t a r h c m = m ∙ ap (λ (z : Answer ℕ). given (on_or z t)) (c ∙ ap (candidate false pace seed) (add-one k ∙ ap suc h))
+  ahead_said t a r h c m = m ∙ ap (λ (z : Answer ℕ). on_or z t) (c ∙ ap (candidate false pace seed) (add-one k ∙ ap suc h))
 
-pub ruleset from_seed = (more_behind, more_ahead, behind_meant, ahead_meant, rules)
+pub ruleset from_seed = (more_behind, more_ahead, behind_said, ahead_said, rules)
 
--- ---- the calendar, and the rows that are left of an answered request
-module _ (answer : Checked) (mask : ℕ) (closed : List ℕ) (h : checked answer ≡ check_of mask closed) where
-  pub is_sound : answer ≡ checked-is.Sound → true ≡ calendar_ok mask closed
-  unfolding checked check_of
-  is_sound e = sym (need_given CALENDAR (calendar_ok mask closed) (given sound) sound (sym h ∙ ap checked e)).0
-
-  pub is_unsound : (n : ℕ) → answer ≡ checked-is.Refused n → false ≡ calendar_ok mask closed
-  unfolding checked check_of
-  is_unsound n e = by (calendar_ok mask closed) refl
-    where
-      by : (b : Bool) → calendar_ok mask closed ≡ b → false ≡ b
-      by false e' = refl
-      by true e' = absurd (never_both (checked answer) sound n (h ∙ sym (holds CALENDAR (calendar_ok mask closed) (given sound) (given sound) e' refl)) (ap checked e))
-
-module _ (q : Request) (closed : List ℕ) where
-  pub no_effective : (t : Bool) → t ≡ in_book q.effective.day → not t ≡ true → BOOK ≡ first_row (left_rows q closed)
-  unfolding left_rows first_row number_or
-  no_effective t h e = rw (sym h ∙ not-true t e)
-
-  module _ (t : Bool) (h : t ≡ in_book q.effective.day) (e : not t ≡ false) where
-    pub no_termination : (u : Bool) → u ≡ in_book q.termination.day → not u ≡ true → BOOK ≡ first_row (left_rows q closed)
-    unfolding left_rows first_row number_or
-    no_termination u i f = rw (sym h ∙ not-false t e, sym i ∙ not-true u f)
-
-    module _ (u : Bool) (i : u ≡ in_book q.termination.day) (f : not u ≡ false) where
-      pub no_calendar : (v : Bool) → v ≡ calendar_ok q.mask closed → not v ≡ true → CALENDAR ≡ first_row (left_rows q closed)
-      unfolding left_rows first_row number_or
-      no_calendar v j g = rw (sym h ∙ not-false t e, sym i ∙ not-false u f, sym j ∙ not-true v g)
-
-      module _ (v : Bool) (j : v ≡ calendar_ok q.mask closed) (g : not v ≡ false) (w : Bool) (k : w ≡ tenor_ok (nat_abs q.tenor.length) q.tenor.unit) where
-        pub all_left : w ≡ true → 0 ≡ first_row (left_rows q closed)
-        unfolding left_rows first_row number_or
-        all_left l = rw (sym h ∙ not-false t e, sym i ∙ not-false u f, sym j ∙ not-false v g, sym k ∙ l)
-
-        pub no_tenor : w ≡ false → TENOR ≡ first_row (left_rows q closed)
-        unfolding left_rows first_row number_or
-        no_tenor l = rw (sym h ∙ not-false t e, sym i ∙ not-false u f, sym j ∙ not-false v g, sym k ∙ l)
-
-pub ruleset left_tests = (is_sound, is_unsound, no_effective, no_termination, no_calendar, all_left, no_tenor, rules)
-
--- for such a request they are the question's
+-- ---- the rows that are left of an answered request are the question's
 five : Bool → Bool → Bool → Bool → Bool → Bool → Bool → Bool → Bool → ℕ
 five x e t f p c n d a =
     number_or (not (x && (e && (t && (f && p))))) 2 (number_or (not c) 3 (number_or n 4 (number_or (not d) 5 (number_or (not a) 19 0))))
@@ -170,10 +103,10 @@ left_are : (q : Request) (closed : List ℕ) (x : ℕ) → in_book x ≡ true �
 unfolding left_rows asked_rows first_row dates_ok five
 left_are q closed x b a = by (straight q a)
   where
-    told : q.first.day ≡ 0 → q.penultimate.day ≡ 0 → lt_z (pos 0) q.tenor.length ≡ true → first_row (left_rows q closed) ≡ first_row (asked_rows q closed x)
+    told : q.first ≡ 0 → q.penultimate ≡ 0 → lt_z (pos 0) q.tenor.length ≡ true → first_row (left_rows q closed) ≡ first_row (asked_rows q closed x)
     told f p n =
-        left_five (in_book q.effective.day) (in_book q.termination.day) (calendar_ok q.mask closed) (tenor_ok (nat_abs q.tenor.length) q.tenor.unit)
-        ∙ (λ i. five (sym b i) (in_book q.effective.day) (in_book q.termination.day) (sym (no_anchor q.first.day f) i) (sym (no_anchor q.penultimate.day p) i) (calendar_ok q.mask closed) (sym (not_negative q.tenor.length n) i) (tenor_ok (nat_abs q.tenor.length) q.tenor.unit) (sym a i))
+        left_five (in_book q.effective) (in_book q.termination) (calendar_ok q.mask closed) (tenor_ok (nat_abs q.tenor.length) q.tenor.unit)
+        ∙ (λ i. five (sym b i) (in_book q.effective) (in_book q.termination) (sym (no_anchor q.first f) i) (sym (no_anchor q.penultimate p) i) (calendar_ok q.mask closed) (sym (not_negative q.tenor.length n) i) (tenor_ok (nat_abs q.tenor.length) q.tenor.unit) (sym a i))
 
     by : Straight q → first_row (left_rows q closed) ≡ first_row (asked_rows q closed x)
     by (backward s) = told s.no_first s.no_penultimate s.positive
@@ -237,32 +170,36 @@ module _ (q : Request) (closed : List ℕ) (x : ℕ) where
   unfolding input_rows first_row number_or four
   build_rows = refl
 
-  asked_rows_lem : in_book x ≡ true → first_row (asked_rows q closed x) ≡ four_of (number_or (not (is_answered q)) NOTPLAIN 0)
+  rows_of_booked : in_book x ≡ true → first_row (asked_rows q closed x) ≡ four_of (number_or (not (is_answered q)) NOTPLAIN 0)
   unfolding asked_rows first_row four
-  asked_rows_lem e = rw e refl
+  rows_of_booked e = rw e refl
 
   module _ (t : Bool) (b : t ≡ in_book x) (e : not t ≡ false) (n : ℕ) (h : n ≡ first_row (input_rows q closed 0 0)) (p : Bool) (k : p ≡ is_early n) where
-    in_book_lem : in_book x ≡ true
-    in_book_lem = sym b ∙ not-false t e
+    booked : in_book x ≡ true
+    booked = sym b ∙ not-false t e
 
     early_is : is_early (four_of later) ≡ p
     early_is = ap is_early (sym (h ∙ build_rows)) ∙ sym k
 
     pub early_row : p ≡ true → n ≡ first_row (asked_rows q closed x)
-    early_row f = h ∙ build_rows ∙ four_holds _ _ _ _ later _ later_behind (early_is ∙ f) ∙ sym (asked_rows_lem in_book_lem)
+    early_row f = h ∙ build_rows ∙ four_holds _ _ _ _ later _ later_behind (early_is ∙ f) ∙ sym (rows_of_booked booked)
 
     passed_row : (a : Bool) → p ≡ false → a ≡ is_answered q → number_or (not a) NOTPLAIN 0 ≡ first_row (asked_rows q closed x)
-    passed_row a f i = ap (λ (z : Bool). number_or (not z) NOTPLAIN 0) i ∙ four_passed _ _ _ _ later _ (early_is ∙ f) ∙ sym (asked_rows_lem in_book_lem)
+    passed_row a f i = ap (λ (z : Bool). number_or (not z) NOTPLAIN 0) i ∙ four_passed _ _ _ _ later _ (early_is ∙ f) ∙ sym (rows_of_booked booked)
 
     pub other_row : (a : Bool) → p ≡ false → a ≡ is_answered q → a ≡ false → NOTPLAIN ≡ first_row (asked_rows q closed x)
     unfolding number_or
     other_row a f i g = ap (λ (z : Bool). number_or (not z) NOTPLAIN 0) (sym g) ∙ passed_row a f i
 
-  -- an answered request: its anchors are 0 and its tenor is positive
-  pub left_rows_lem : (t a : Bool) (n : ℕ) → t ≡ in_book x → not t ≡ false → a ≡ is_answered q → a ≡ true → n ≡ first_row (left_rows q closed) → n ≡ first_row (asked_rows q closed x)
-  left_rows_lem t a n b e i g h = h ∙ left_are q closed x (sym b ∙ not-false t e) (sym i ∙ g)
+  -- a build is not refused
+  pub unrefused_row : (t a : Bool) → t ≡ in_book x → not t ≡ false → 0 ≡ first_row (input_rows q closed 0 0) → a ≡ is_answered q → a ≡ false → NOTPLAIN ≡ first_row (asked_rows q closed x)
+  unrefused_row t a b e h i g = other_row t b e 0 h false (none_early 0 refl) a refl i g
 
-pub ruleset asked_tests = (not_booked, early_row, other_row, left_rows_lem, rules)
+  -- an answered request: its anchors are 0 and its tenor is positive
+  pub left_row : (t a : Bool) (n : ℕ) → t ≡ in_book x → not t ≡ false → a ≡ is_answered q → a ≡ true → n ≡ first_row (left_rows q closed) → n ≡ first_row (asked_rows q closed x)
+  left_row t a n b e i g h = h ∙ left_are q closed x (sym b ∙ not-false t e) (sym i ∙ g)
+
+pub ruleset asked_tests = (not_booked, early_row, other_row, unrefused_row, left_row, rules)
 
 -- ---- a seed for days or for months
 pub seed_months : (monthly : Bool) (day : ℕ) (f : Fields) (month : ℕ) → monthly ≡ true → f ≡ fields_of day → month ≡ 12 * f.year + f.month - 1 → SeedIn monthly day (record { day = day; month = month; keep = f.day })
@@ -274,11 +211,16 @@ seed_months monthly day f month e h m =
 pub seed_days : (monthly : Bool) (day : ℕ) → monthly ≡ false → SeedIn monthly day (record { day = day; month = 0; keep = 0 })
 seed_days monthly day e = record { day_is = refl; whole = λ f. absurd (false≢true (sym e ∙ f)); no_month = λ _. refl }
 
+pub ruleset seed_ways = (counts, seed_months, seed_days, rules)
+
 month_at : (day : ℕ) (seed : Seed) → seed ≡ seed_of false day → seed.month ≡ month_index day
 unfolding seed_of
 month_at day seed h = ap (λ (s : Seed). s.month) h
 
 -- ---- between the dates, and the whole answer
+pub passed_as : {q q' : Request} {x : ℕ} → q' ≡ q → Passed q x → Passed q' x
+passed_as {q} {q'} {x} e c = subst (λ (z : Request). Passed z x) (sym e) c
+
 module _ (q : Request) (x : ℕ) (c : Passed q x) where
   module _ (p : Pace) (paced : p ≡ pace q.tenor) (seed : Seed) where
     book_seed : (day : ℕ) → in_book day ≡ true → SeedIn p.monthly day seed → Booked seed x
@@ -288,63 +230,62 @@ module _ (q : Request) (x : ℕ) (c : Passed q x) where
         by false e = omega (arith, s.no_month e)
         by true e = omega (arith, (since day b).1, month_at day seed (s.whole e))
 
-    pub back_booked : SeedIn p.monthly q.termination.day seed → Booked seed x
-    back_booked s = book_seed q.termination.day c.termination s
+    pub back_booked : SeedIn p.monthly q.termination seed → Booked seed x
+    back_booked s = book_seed q.termination c.termination s
 
-    pub on_booked : SeedIn p.monthly q.effective.day seed → Booked seed x
-    on_booked s = book_seed q.effective.day c.effective s
+    pub on_booked : SeedIn p.monthly q.effective seed → Booked seed x
+    on_booked s = book_seed q.effective c.effective s
 
     is_paced : p ≡ pace_of q.tenor
     is_paced = paced ∙ pace_checked q.tenor c.tenor
 
     module _ (t : Bool) (u : t ≡ is_backward q.rule) (r : Coming) where
-      pub goes_back : t ≡ true → SeedIn p.monthly q.termination.day seed → meant r ≡ given (behind_of p seed q.effective.day x) → meant r ≡ given (comes_between q x)
+      pub goes_back : t ≡ true → SeedIn p.monthly q.termination seed → said r ≡ behind_of p seed q.effective x → said r ≡ comes_between q x
       goes_back e s m =
-          m ∙ ap given (behind_in p q.termination.day seed s q.effective.day x ∙ ap (λ (z : Pace). behind_of z (seed_of false q.termination.day) q.effective.day x) is_paced ∙ behind_is q x ∙ ap (λ (b : Bool). pick_c b (comes_backward q x) (comes_forward q x)) (sym e ∙ u))
+          m ∙ (behind_in p q.termination seed s q.effective x ∙ ap (λ (z : Pace). behind_of z (seed_of false q.termination) q.effective x) is_paced ∙ behind_is q x ∙ ap (λ (b : Bool). pick_c b (comes_backward q x) (comes_forward q x)) (sym e ∙ u))
 
-      pub goes_on : t ≡ false → SeedIn p.monthly q.effective.day seed → meant r ≡ given (ahead_of p seed q.termination.day x) → meant r ≡ given (comes_between q x)
+      pub goes_on : t ≡ false → SeedIn p.monthly q.effective seed → said r ≡ ahead_of p seed q.termination x → said r ≡ comes_between q x
       goes_on e s m =
-          m ∙ ap given (ahead_in p q.effective.day seed s q.termination.day x ∙ ap (λ (z : Pace). ahead_of z (seed_of false q.effective.day) q.termination.day x) is_paced ∙ ahead_is q x ∙ ap (λ (b : Bool). pick_c b (comes_backward q x) (comes_forward q x)) (sym e ∙ u))
+          m ∙ (ahead_in p q.effective seed s q.termination x ∙ ap (λ (z : Pace). ahead_of z (seed_of false q.effective) q.termination x) is_paced ∙ ahead_is q x ∙ ap (λ (b : Bool). pick_c b (comes_backward q x) (comes_forward q x)) (sym e ∙ u))
 
-pub ruleset between_ways = (back_booked, on_booked, goes_back, goes_on, rules)
-
-module _ (q : Request) (closed : List ℕ) (x n : ℕ) (h : n ≡ first_row (asked_rows q closed x)) where
-  pub is_refused : (n ≡ 0 → ⊥) → meant (coming.Refused n) ≡ coming_of q closed x
-  unfolding meant coming_of unless_refused
-  is_refused z = by (first_row (asked_rows q closed x)) h
+module _ (q : Request) (closed : List ℕ) (x : ℕ) (tested : Result (Prim.Unit {0}) Refusal) (h : number (answered tested) ≡ first_row (asked_rows q closed x)) where
+  pub is_refused : (d : Result Coming Refusal) (r : Refusal) → tested ≡ Err r → IsErr d × IsErrAnd d (λ k. k ≡ r) → meant d ≡ coming_of q closed x
+  unfolding meant coming_of unless_refused number
+  is_refused d r e k = ap meant (handed d r k) ∙ by (first_row (asked_rows q closed x)) (ap (λ (t : Result (Prim.Unit {0}) Refusal). number (answered t)) (sym e) ∙ h)
     where
-      by : (k : ℕ) → n ≡ k → refused n ≡ unless_refused k (comes_after q x)
-      by zero e = absurd (z e)
-      by (suc k) e = ap refused e
+      by : (n : ℕ) → number_of r ≡ n → refused (number_of r) ≡ unless_refused n (comes_after q x)
+      by zero z = absurd (some_number r z)
+      by (suc n) z = ap refused z
 
-  module _ (z : n ≡ 0) where
-    is_given_lem : (r : Coming) → meant r ≡ given (comes_after q x) → meant r ≡ coming_of q closed x
-    unfolding coming_of unless_refused
-    is_given_lem r m = m ∙ ap (λ (k : ℕ). unless_refused k (comes_after q x)) (sym (sym h ∙ z))
+  module _ (u : Prim.Unit {0}) (e : tested ≡ Ok u) where
+    no_row : 0 ≡ first_row (asked_rows q closed x)
+    unfolding number
+    no_row = ap (λ (t : Result (Prim.Unit {0}) Refusal). number (answered t)) (sym e) ∙ h
+
+    is_given : (r : Coming) → said r ≡ comes_after q x → meant (Ok r) ≡ coming_of q closed x
+    unfolding meant coming_of unless_refused
+    is_given r m = ap given m ∙ ap (λ (k : ℕ). unless_refused k (comes_after q x)) no_row
 
     abbrev rest : Comes
-    rest = pick_c (leb q.termination.day x) none_comes (comes_between q x)
+    rest = pick_c (leb q.termination x) none_comes (comes_between q x)
 
-    pub is_first : (d : Date) → d ≡ q.effective → x < q.effective.day → meant (coming.Effective d) ≡ coming_of q closed x
-    unfolding meant comes_after
-    is_first d e l =
-        is_given_lem (coming.Effective d)
-        (ap (λ (y : Date). given (begins y.day)) e ∙ ap (λ (b : Bool). given (pick_c b (begins q.effective.day) rest)) (sym (lt-ltb x q.effective.day l)))
+    pub is_first : (d : ℕ) → d ≡ q.effective → x < d → meant (Ok (coming.Effective d)) ≡ coming_of q closed x
+    unfolding said comes_after
+    is_first d i l = is_given (coming.Effective d) (ap begins i ∙ ap (λ (b : Bool). pick_c b (begins q.effective) rest) (sym (lt-ltb x q.effective (omega (arith, i)))))
 
-    not_before : q.effective.day ≤ x → given rest ≡ given (comes_after q x)
-    unfolding comes_after
-    not_before l = ap (λ (b : Bool). given (pick_c b (begins q.effective.day) rest)) (sym (le-ltb x q.effective.day l))
+    module _ (d t : ℕ) (i : d ≡ q.effective) (k : t ≡ q.termination) (l : d ≤ x) where
+      not_before : rest ≡ comes_after q x
+      unfolding comes_after
+      not_before = ap (λ (b : Bool). pick_c b (begins q.effective) rest) (sym (le-ltb x q.effective (omega (arith, i))))
 
-    pub is_none : q.effective.day ≤ x → q.termination.day ≤ x → meant coming.Nothing ≡ coming_of q closed x
-    unfolding meant
-    is_none l i = is_given_lem coming.Nothing (ap (λ (b : Bool). given (pick_c b none_comes (comes_between q x))) (sym (le-leb q.termination.day x i)) ∙ not_before l)
+      pub is_none : t ≤ x → meant (Ok coming.Nothing) ≡ coming_of q closed x
+      unfolding said
+      is_none g = is_given coming.Nothing (ap (λ (b : Bool). pick_c b none_comes (comes_between q x)) (sym (le-leb q.termination x (omega (arith, k)))) ∙ not_before)
 
-    pub is_between : (r : Coming) → q.effective.day ≤ x → x < q.termination.day → meant r ≡ given (comes_between q x) → meant r ≡ coming_of q closed x
-    is_between r l i m = is_given_lem r (m ∙ ap (λ (b : Bool). given (pick_c b none_comes (comes_between q x))) (sym (lt-leb q.termination.day x i)) ∙ not_before l)
+      pub is_between : (r : Coming) → x < t → said r ≡ comes_between q x → meant (Ok r) ≡ coming_of q closed x
+      is_between r g m = is_given r (m ∙ ap (λ (b : Bool). pick_c b none_comes (comes_between q x)) (sym (lt-leb q.termination x (omega (arith, k)))) ∙ not_before)
 
     pub passed : Passed q x
     passed =
-        let a = answerable q closed x (answer_is_none (asked_rows q closed x) (asked_numbered q closed x) (sym h ∙ z)) in
+        let a = answerable q closed x (answer_is_none (asked_rows q closed x) (asked_numbered q closed x) (sym no_row)) in
         record { tenor = a.passes.tenor_short; effective = a.passes.effective_in_book; termination = a.passes.termination_in_book; asked = a.day_in_book }
-
-pub ruleset after_ways = (is_refused, is_first, is_none, is_between, passed, rules)

@@ -15,40 +15,26 @@ use Rattle.steps.specs.declared.Rule.TheVariants.{Zero, Backward, Forward, CDS}
 use Rattle.steps.specs.declared.Request.{Request}
 use Rattle.steps.specs.Rules.{rule_number, one_of, is_backward}
 use Rattle.steps.specs.Table.{number_or, first_row, anchor_ok, dates_ok}
+use Rattle.plain.specs.Requests.{on, request}
 use Rattle.plain.specs.PlainTests.{is_unadjusted, is_straight}
 use Rattle.plain.specs.Most.{months_between, most_by, most_on_by}
 use Rattle.coming.specs.Coming.{Comes, begins, comes, none_comes, is_direct, asked_rows, on_or, comes_forward, flag_by, comes_backward, comes_after, unless_refused, coming_of}
 
-abbrev on : ℕ → ℕ → ℕ
-on month day = day_number 2025 month day
-
 -- Unadjusted, end of month off, no anchors, the weekly closed days as masked
 trade : Rule → ℤ → Unit → ℕ → ℕ → ℕ → Request
-trade rule length unit from to mask =
-    record {
-      effective = record { day = from };
-      termination = record { day = to };
-      tenor = record { length = length; unit = unit };
-      rule = rule;
-      convention = Unadjusted;
-      terminal = Unadjusted;
-      monthend = false;
-      first = record { day = 0 };
-      penultimate = record { day = 0 };
-      mask = mask;
-    }
+trade rule length unit from to mask = request rule Unadjusted Unadjusted false from to length unit 0 0 mask
 
 T : Rule → Request
 T rule = trade rule (pos 3) Months (on 1 15) (on 12 20) 0
 
 adjusting : Convention → Convention → Request
-adjusting convention terminal = record { effective = record { day = on 1 15 }; termination = record { day = on 12 20 }; tenor = record { length = pos 3; unit = Months }; rule = Backward; convention = convention; terminal = terminal; monthend = false; first = record { day = 0 }; penultimate = record { day = 0 }; mask = 0 }
+adjusting convention terminal = request Backward convention terminal false (on 1 15) (on 12 20) (pos 3) Months 0 0 0
 
 anchored : ℕ → ℕ → Request
-anchored first penultimate = record { effective = record { day = on 1 15 }; termination = record { day = on 12 20 }; tenor = record { length = pos 3; unit = Months }; rule = Backward; convention = Unadjusted; terminal = Unadjusted; monthend = false; first = record { day = first }; penultimate = record { day = penultimate }; mask = 0 }
+anchored first penultimate = request Backward Unadjusted Unadjusted false (on 1 15) (on 12 20) (pos 3) Months first penultimate 0
 
 at_month_end : Rule → Unit → Request
-at_month_end rule unit = record { effective = record { day = on 1 15 }; termination = record { day = on 12 20 }; tenor = record { length = pos 1; unit = unit }; rule = rule; convention = Unadjusted; terminal = Unadjusted; monthend = true; first = record { day = 0 }; penultimate = record { day = 0 }; mask = 0 }
+at_month_end rule unit = request rule Unadjusted Unadjusted true (on 1 15) (on 12 20) (pos 1) unit 0 0 0
 
 asked : Request → ℕ → Answer Comes
 asked q x = coming_of q [] x

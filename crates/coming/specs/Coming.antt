@@ -1,7 +1,9 @@
 -- Document 02, "the coming date without the list": which requests the question answers, what it is refused with, and the coming date by one division.
 -- That it is what the list shows is said in Promise.
 -- Assumes nothing.
-use Rattle.std.specs.Prelude.{ℕ, zero, suc, ◌+◌, ◌/◌, Bool, true, false, not, ◌&&◌, ◌||◌, List, [], ◌∷◌, eqb, leb, ltb, nat_abs}
+use Rattle.std.specs.Prelude.{ℕ, zero, suc, ◌+◌, ◌/◌, Bool, true, false, not, ◌&&◌, ◌||◌, List, [], ◌∷◌, eqb, leb, ltb, nat_abs, Result, Ok, Err}
+use Rattle.refusal.specs.declared.Refusal.{Refusal}
+use Rattle.refusal.specs.Refusals.{number_of}
 use Rattle.refusal.specs.Answer.{Answer, given, refused, BOOK, CALENDAR, NEGATIVE, TENOR, NOTPLAIN}
 use Rattle.period.specs.Period.{is_negative}
 use Rattle.date.specs.Civil.{pick_n}
@@ -53,7 +55,7 @@ on_or (refused n) t = comes t 0
 
 unfoldable pub comes_forward : Request → ℕ → Comes
 comes_forward q x =
-    on_or (tenors_after q (suc (most_on_by q.tenor.unit q.effective.day x / tenor_count q))) q.termination.day
+    on_or (tenors_after q (suc (most_on_by q.tenor.unit q.effective x / tenor_count q))) q.termination
 
 -- ---- backward, from termination: as many tenors as keep after x; irregular if one more passes before effective
 unfoldable pub flag_by : Answer ℕ → ℕ → ℕ
@@ -61,16 +63,16 @@ flag_by (given d) e = pick_n (leb e d) 1 0
 flag_by (refused n) e = 0
 
 abbrev pub tenors_kept : Request → ℕ → ℕ
-tenors_kept q x = most_by q.tenor.unit (x + 1) q.termination.day / tenor_count q
+tenors_kept q x = most_by q.tenor.unit (x + 1) q.termination / tenor_count q
 
 unfoldable pub comes_backward : Request → ℕ → Comes
 comes_backward q x =
-    comes (day_or (tenors_before q (tenors_kept q x))) (flag_by (tenors_before q (suc (tenors_kept q x))) q.effective.day)
+    comes (day_or (tenors_before q (tenors_kept q x))) (flag_by (tenors_before q (suc (tenors_kept q x))) q.effective)
 
 -- ---- the whole answer: before effective it is effective, from termination on there is none
 abbrev pub between_or : Request → ℕ → Comes → Comes
 between_or q x between =
-    pick_c (ltb x q.effective.day) (begins q.effective.day) (pick_c (leb q.termination.day x) none_comes between)
+    pick_c (ltb x q.effective) (begins q.effective) (pick_c (leb q.termination x) none_comes between)
 
 abbrev pub comes_between : Request → ℕ → Comes
 comes_between q x = pick_c (is_backward q.rule) (comes_backward q x) (comes_forward q x)
@@ -86,8 +88,11 @@ unfoldable pub coming_of : Request → List ℕ → ℕ → Answer Comes
 coming_of q closed x = unless_refused (first_row (asked_rows q closed x)) (comes_after q x)
 
 -- ---- what the code's answer means, in every case; a flag is a byte, 1 regular
-unfoldable pub meant : Coming → Answer Comes
-meant (coming.Effective d) = given (begins d.day)
-meant (coming.Ending d regular) = given (comes d.day (pick_n regular 1 0))
-meant coming.Nothing = given none_comes
-meant (coming.Refused n) = refused n
+unfoldable pub said : Coming → Comes
+said (coming.Effective d) = begins d
+said (coming.Ending d regular) = comes d (pick_n regular 1 0)
+said coming.Nothing = none_comes
+
+unfoldable pub meant : Result Coming Refusal → Answer Comes
+meant (Ok c) = given (said c)
+meant (Err r) = refused (number_of r)

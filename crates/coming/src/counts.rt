@@ -1,38 +1,39 @@
 // Whole tenors between a seed and a day: one division.
 ghost use Rattle.std.specs.Prelude.{◌≡◌, ◌+◌, ◌-◌, ◌*◌, ◌/◌};
-ghost use Rattle.date.specs.Date.{dated};
+ghost use Rattle.refusal.specs.Answer.{answered};
 ghost use Rattle.steps.specs.Candidates.{is_past};
 ghost use Rattle.plain.specs.Most.{day_or};
 ghost use Rattle.coming.specs.Laws.Counted.{apart, most_months, most_from, tenors_from, Counts};
 
-use date::{Dated, Fields, civil, span};
+use date::{Date, Fields, civil, span};
+use refusal::Refusal;
 use steps::{Pace, Seed};
 
-fn less(a: u32, b: u32) -> u32
-    ensures { result ≡ a - b }
-{
-    if a < b { 0 } else { a - b }
-}
-
 // How far it is from a back to b, or on to b.
+#[tactic(auto, unfolding(crate::specs::Laws::Counted::apart))]
 fn apart(back: bool, a: u32, b: u32) -> u32
     ensures { result ≡ apart back a b }
 {
-    if back { less(a, b) } else { less(b, a) }
+    if back {
+        a.saturating_sub(b)
+    } else {
+        b.saturating_sub(a)
+    }
 }
 
+#[tactic(auto, unfolding(steps::specs::Candidates::is_past))]
 fn is_past(back: bool, exit: u32, day: u32) -> bool
     ensures { result ≡ is_past back exit day }
 {
     if back { day < exit } else { exit < day }
 }
 
-pub(crate) fn day_or(d: Dated) -> u32
-    ensures { result ≡ day_or (dated d) }
+pub(crate) fn day_or(d: Result<Date, Refusal>) -> u32
+    ensures { result ≡ day_or (answered d) }
 {
     match d {
-        Dated::Day(d) => d.day,
-        Dated::Refused(_) => 0,
+        Ok(d) => d.day,
+        Err(_) => 0,
     }
 }
 
@@ -45,17 +46,19 @@ pub(crate) fn month_of(f: Fields) -> u32
 }
 
 // The months between, one less where the seed's day of that month lies past the day.
+#[tactic(auto, using(crate::proofs::Counting::months))]
 fn most_months(back: bool, seed: Seed, near: u32) -> u32
     ensures { result ≡ most_months back seed near }
 {
     let gap = apart(back, seed.month, month_of(civil::fields_of(near)));
     let day = day_or(span::months_from(seed.month, back, gap, seed.keep));
     if is_past(back, near, day) {
-        return less(gap, 1);
+        return gap.saturating_sub(1);
     }
     gap
 }
 
+#[tactic(auto, unfolding(crate::specs::Laws::Counted::most_from))]
 fn most(back: bool, monthly: bool, seed: Seed, near: u32) -> u32
     ensures { result ≡ most_from back monthly seed near }
 {

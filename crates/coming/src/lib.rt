@@ -2,19 +2,18 @@
 #![tactic(auto)]
 
 ghost use Rattle.std.specs.Prelude.{◌≡◌, nat_abs};
-ghost use Rattle.refusal.specs.Answer.{given};
+ghost use Rattle.refusal.specs.Answer.{answered, number};
+ghost use Rattle.refusal.specs.Refusals.{number_of};
 ghost use Rattle.date.specs.Civil.{pick_n};
-ghost use Rattle.date.specs.Date.{dated};
-ghost use Rattle.calendar.specs.Open.{calendar_ok};
 ghost use Rattle.calendar.specs.Calendar.{tenor_ok};
 ghost use Rattle.steps.specs.Table.{first_row};
-ghost use Rattle.coming.specs.Coming.{is_direct, is_answered, asked_rows, on_or, flag_by, comes_between, coming_of, meant};
+ghost use Rattle.coming.specs.Coming.{is_direct, is_answered, asked_rows, on_or, flag_by, comes_between, coming_of, said, meant};
 ghost use Rattle.coming.specs.Laws.Counted.{behind_of, ahead_of, Booked, SeedIn};
 ghost use Rattle.coming.specs.Inner.Checked.{is_early, left_rows, Passed};
 
-use calendar::Checked;
-use date::{Date, Dated, civil, in_book};
+use date::{Date, civil, in_book};
 use period::{Period, sign};
+use refusal::Refusal;
 use steps::{Pace, Request, Rule, Seed, rules};
 use working::candidates;
 
@@ -30,55 +29,28 @@ pub enum Coming {
     Ending { date: Date, regular: bool },
     // No later date.
     Nothing,
-    Refused(u8),
 }
 
 // Backward or Forward.
+#[tactic(auto, unfolding(crate::specs::Coming::is_direct, steps::specs::Rules::rule_number))]
 fn is_direct(rule: Rule) -> bool
     ensures { result ≡ is_direct rule }
 {
-    match rule {
-        Rule::Zero => false,
-        Rule::Backward => true,
-        Rule::Forward => true,
-        Rule::Twentieth => false,
-        Rule::TwentiethIMM => false,
-        Rule::ThirdWednesday => false,
-        Rule::ThirdWednesdayInclusive => false,
-        Rule::OldCDS => false,
-        Rule::CDS => false,
-        Rule::CDS2015 => false,
-    }
+    matches!(rule, Rule::Backward | Rule::Forward)
 }
 
-fn is_answered(q: Request) -> bool
-    ensures { result ≡ is_answered q }
+fn is_answered(q: &Request) -> bool
+    ensures { result ≡ is_answered q.now }
 {
-    let rule = q.rule;
-    if !is_direct(rule) {
-        return false;
-    }
-    plain::is_straight(q)
+    is_direct(q.rule) && plain::is_straight(*q)
 }
 
 // A row of a build's table that is one of the question's too.
-fn is_early(number: u8) -> bool
-    ensures { result ≡ is_early number }
+#[tactic(auto, using(crate::proofs::Ways::early_number))]
+fn is_early(refusal: Refusal) -> bool
+    ensures { result ≡ is_early (number_of refusal) }
 {
-    if number == 0 {
-        return false;
-    }
-    number <= refusal::TENOR
-}
-
-fn is_sound(mask: u8, closed: &[u32]) -> bool
-    ensures { result ≡ calendar_ok mask closed.now }
-{
-    let answer = calendar::check(mask, closed);
-    match answer {
-        Checked::Sound => true,
-        Checked::Refused(_) => false,
-    }
+    refusal.number() <= Refusal::Tenor.number()
 }
 
 fn is_short(tenor: Period) -> bool
@@ -89,55 +61,53 @@ fn is_short(tenor: Period) -> bool
 }
 
 // What is left of the rows for a request that is answered, and an asked day of the book.
-fn left_refusal(q: Request, closed: &[u32]) -> u8
-    ensures { result ≡ first_row (left_rows q closed.now) }
+#[tactic(auto, unfolding(crate::specs::Inner::Checked::left_rows, steps::specs::Table::first_row, steps::specs::Table::number_or, calendar::specs::Calendar::check_of, refusal::specs::Answer::need, refusal::specs::Answer::number))]
+fn check_left(q: &Request, closed: &[u32]) -> Result<(), Refusal>
+    ensures { number (answered result) ≡ first_row (left_rows q.now closed.now) }
 {
-    if !in_book(q.effective.day) {
-        return refusal::BOOK;
+    if !in_book(q.effective.day) || !in_book(q.termination.day) {
+        return Err(Refusal::Book);
     }
-    if !in_book(q.termination.day) {
-        return refusal::BOOK;
-    }
-    if !is_sound(q.mask, closed) {
-        return refusal::CALENDAR;
-    }
+    calendar::check(q.mask, closed)?;
     if is_short(q.tenor) {
-        return 0;
+        Ok(())
+    } else {
+        Err(Refusal::Tenor)
     }
-    refusal::TENOR
 }
 
-// The number of the first row that holds, or 0. The rows 2 to 5 are those of a build whose lent lists have one length.
-fn refusal_of(q: Request, closed: &[u32], asked: u32) -> u8
-    ensures { result ≡ first_row (asked_rows q closed.now asked) }
+// The first row that holds refuses. The rows 2 to 5 are those of a build whose lent lists have one length.
+#[tactic(auto, using(crate::proofs::Ways::asked_tests), unfolding(refusal::specs::Answer::number))]
+fn check(q: &Request, closed: &[u32], asked: u32) -> Result<(), Refusal>
+    ensures { number (answered result) ≡ first_row (asked_rows q.now closed.now asked) }
 {
     if !in_book(asked) {
-        return refusal::BOOK;
+        return Err(Refusal::Book);
     }
     if is_answered(q) {
-        return left_refusal(q, closed);
+        return check_left(q, closed);
     }
-    let number = checks::input_refusal(q, closed, 0, 0);
-    if is_early(number) {
-        return number;
+    match checks::check(*q, closed, 0, 0) {
+        Err(refusal) if is_early(refusal) => Err(refusal),
+        _ => Err(Refusal::NotPlain),
     }
-    refusal::NOTPLAIN
 }
 
 // Regular if one tenor more keeps from the effective date on.
-fn is_regular(earlier: Dated, effective: u32) -> bool
-    ensures { pick_n result 1 0 ≡ flag_by (dated earlier) effective }
+#[tactic(auto, unfolding(crate::specs::Coming::flag_by))]
+fn is_regular(earlier: Result<Date, Refusal>, effective: u32) -> bool
+    ensures { pick_n result 1 0 ≡ flag_by (answered earlier) effective }
 {
     match earlier {
-        Dated::Day(d) => effective <= d.day,
-        Dated::Refused(_) => false,
+        Ok(d) => effective <= d.day,
+        Err(_) => false,
     }
 }
 
 // From termination back: as many tenors as keep after the asked day.
 fn behind(pace: Pace, seed: Seed, effective: u32, asked: u32) -> Coming
     requires { Booked seed asked }
-    ensures { meant result ≡ given (behind_of pace seed effective asked) }
+    ensures { said result ≡ behind_of pace seed effective asked }
 {
     let k = counts::tenors(true, pace, seed, asked + 1);
     let day = counts::day_or(candidates::candidate(true, pace, seed, k));
@@ -149,23 +119,16 @@ fn behind(pace: Pace, seed: Seed, effective: u32, asked: u32) -> Coming
 }
 
 // A tenor more, or termination where that passes it.
-fn on_or(later: Dated, termination: u32) -> Coming
-    ensures { meant result ≡ given (on_or (dated later) termination) }
+#[tactic(auto, unfolding(crate::specs::Coming::on_or, crate::specs::Coming::said))]
+fn on_or(later: Result<Date, Refusal>, termination: u32) -> Coming
+    ensures { said result ≡ on_or (answered later) termination }
 {
     match later {
-        Dated::Day(d) => {
-            if d.day <= termination {
-                return Coming::Ending {
-                    date: d,
-                    regular: true,
-                };
-            }
-            Coming::Ending {
-                date: Date { day: termination },
-                regular: false,
-            }
-        }
-        Dated::Refused(_) => Coming::Ending {
+        Ok(d) if d.day <= termination => Coming::Ending {
+            date: d,
+            regular: true,
+        },
+        _ => Coming::Ending {
             date: Date { day: termination },
             regular: false,
         },
@@ -173,15 +136,17 @@ fn on_or(later: Dated, termination: u32) -> Coming
 }
 
 // From effective on: one tenor more than keep to the asked day.
+#[tactic(auto, using(crate::proofs::Ways::from_seed))]
 fn ahead(pace: Pace, seed: Seed, termination: u32, asked: u32) -> Coming
     requires { Booked seed asked }
-    ensures { meant result ≡ given (ahead_of pace seed termination asked) }
+    ensures { said result ≡ ahead_of pace seed termination asked }
 {
     let k = counts::tenors(false, pace, seed, asked);
     on_or(candidates::candidate(false, pace, seed, k + 1), termination)
 }
 
 // A seed for candidates by days or by months; those by days need no month.
+#[tactic(auto, using(crate::proofs::Ways::seed_ways))]
 fn seed_in(monthly: bool, day: u32) -> Seed
     ensures { SeedIn monthly day result }
 {
@@ -201,13 +166,12 @@ fn seed_in(monthly: bool, day: u32) -> Seed
 }
 
 // From effective on and before termination.
-fn between(q: Request, asked: u32) -> Coming
-    requires { Passed q asked }
-    ensures { meant result ≡ given (comes_between q asked) }
+fn between(q: &Request, asked: u32) -> Coming
+    requires { Passed q.now asked }
+    ensures { said result ≡ comes_between q.now asked }
 {
-    let rule = q.rule;
     let pace = candidates::pace_of(q.tenor);
-    if rules::is_backward(rule) {
+    if rules::is_backward(q.rule) {
         let seed = seed_in(pace.monthly, q.termination.day);
         return behind(pace, seed, q.effective.day, asked);
     }
@@ -217,19 +181,18 @@ fn between(q: Request, asked: u32) -> Coming
 
 // The first date of the schedule after an asked day, with the flag of the period that it ends, for a request that is Backward or
 // Forward and straight. No list is made, so that neither its length nor room matters.
-pub fn after(q: Request, closed: &[u32], asked: Date) -> Coming
-    ensures { meant result ≡ coming_of q closed.now asked.day }
+
+pub fn after(q: Request, closed: &[u32], asked: Date) -> Result<Coming, Refusal>
+    ensures { meant result ≡ coming_of q closed.now asked }
 {
-    let number = refusal_of(q, closed, asked.day);
-    if number != 0 {
-        return Coming::Refused(number);
+    let effective = q.effective.day;
+    let termination = q.termination.day;
+    check(&q, closed, asked.day)?;
+    if asked.day < effective {
+        return Ok(Coming::Effective(Date { day: effective }));
     }
-    if asked.day < q.effective.day {
-        let effective = q.effective;
-        return Coming::Effective(effective);
+    if termination <= asked.day {
+        return Ok(Coming::Nothing);
     }
-    if q.termination.day <= asked.day {
-        return Coming::Nothing;
-    }
-    between(q, asked.day)
+    Ok(between(&q, asked.day))
 }

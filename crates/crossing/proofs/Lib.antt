@@ -1,5 +1,3 @@
 pub mod Counting
-pub mod Places
 pub mod Naming
-pub mod Marks
 pub mod Laying

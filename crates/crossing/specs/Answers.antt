@@ -4,11 +4,12 @@ use Rattle.std.specs.Prelude.{ℕ, ◌+◌, ◌*◌, ◌≡◌, Bool, true, fals
 use Rattle.refusal.specs.Answer.{Answer, given, refused, need, then, ROOM}
 use Rattle.period.specs.declared.Period.{Period}
 use Rattle.date.specs.declared.Fields.{Fields}
-use Rattle.date.specs.Date.{Order, before, same, after}
+use Rattle.std.specs.declared.cmp.Ordering.{Ordering}
+use Rattle.std.specs.declared.cmp.Ordering.TheVariants.{Less, Equal, Greater}
 use Rattle.imm.specs.declared.codes.Code.{Code}
 use Rattle.coming.specs.Coming.{Comes, begins, comes, none_comes}
 
-unfoldable pub one_number_of : {A : Type 0} → (A → ℕ) → Answer A → ℤ
+abbrev pub one_number_of : {A : Type 0} → (A → ℕ) → Answer A → ℤ
 one_number_of f (given a) = pos (f a)
 one_number_of f (refused n) = neg_ℤ (pos n)
 
@@ -17,24 +18,24 @@ abbrev pub itself : ℕ → ℕ
 itself n = n
 
 -- 20250319 is 19 March 2025
-unfoldable pub digits : Fields → ℕ
+abbrev pub digits : Fields → ℕ
 digits f = f.year * 10000 + f.month * 100 + f.day
 
-unfoldable pub place : Order → ℕ
-place before = 0
-place same = 1
-place after = 2
+abbrev pub place : Ordering → ℕ
+place Less = 0
+place Equal = 1
+place Greater = 2
 
-unfoldable pub yes : Bool → ℕ
+abbrev pub yes : Bool → ℕ
 yes true = 1
 yes false = 0
 
 -- the two bytes of a code
-unfoldable pub two_bytes : Code → ℕ
+abbrev pub two_bytes : Code → ℕ
 two_bytes c = c.letter * 256 + c.digit
 
 -- a coming date: 0 is no later date; else the day times 4, and 0 for an irregular period that ends there, 1 for a regular one, 2 for none
-unfoldable pub marked : Comes → ℕ
+abbrev pub marked : Comes → ℕ
 marked (begins d) = d * 4 + 2
 marked (comes d flag) = d * 4 + flag
 marked none_comes = 0

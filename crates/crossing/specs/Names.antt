@@ -1,7 +1,6 @@
 -- The names of document 01's refusals, in ASCII, and what a lent list then holds of one.
 -- Assumes nothing.
-use Rattle.std.specs.Prelude.{ℕ, suc, ◌≤◌, ◌≡◌, List, [], leb, ℤ, pos, negsuc, length, take}
-use Rattle.refusal.specs.declared.NameRow.{NameRow}
+use Rattle.std.specs.Prelude.{ℕ, suc, ◌≡◌, List, [], leb, ℤ, pos, negsuc, length}
 use Rattle.refusal.specs.Answer.{Answer, given, refused, need, ROOM}
 use Rattle.refusal.specs.Refusals.{name_of_number}
 use Rattle.steps.specs.Build.{over}
@@ -24,9 +23,3 @@ text_after (refused n) text = text
 pub record Spelled (name : List ℕ) (r : ℤ) (text text' : List ℕ) : Type 0 where
   pub answer : r ≡ one_number_of length (fitting name text)
   pub text_after_lem : text' ≡ text_after (fitting name text) text
-
--- ---- a row of the code that has the answer's name, or the empty one
-pub record Naming (answer : ℤ) (row : NameRow) : Type 0 where
-  pub narrow : row.1 ≤ 16
-  pub within : row.1 ≤ length row.2
-  pub name : take row.1 row.2 ≡ name_of answer

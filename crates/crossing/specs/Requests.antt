@@ -1,10 +1,8 @@
 -- A request from numbers.
 -- Assumes nothing.
 use Rattle.std.specs.Prelude.{ℕ, ℤ}
-use Rattle.refusal.specs.Answer.{Answer, given, refused, then}
+use Rattle.refusal.specs.Answer.{Answer, given, then}
 use Rattle.steps.specs.declared.Request.{Request}
-use Rattle.crossing.specs.declared.requests.FromNumbers.{FromNumbers}
-use Rattle.crossing.specs.declared.requests.FromNumbers.TheVariants as Asked-is
 use Rattle.crossing.specs.Numbers.{unit_of, rule_of, convention_of, flag_of}
 
 -- the request with its bytes read; a byte outside its list is 17
@@ -16,19 +14,14 @@ request_of effective termination size unit rule convention terminal monthend fir
     then (convention_of terminal) (λ t.
     then (flag_of monthend) (λ m.
     given (record {
-      effective = record { day = effective };
-      termination = record { day = termination };
+      effective = effective;
+      termination = termination;
       tenor = record { length = size; unit = u };
       rule = r;
       convention = c;
       terminal = t;
       monthend = m;
-      first = record { day = first };
-      penultimate = record { day = penultimate };
+      first = first;
+      penultimate = penultimate;
       mask = mask;
     }))))))
-
--- what the case of the code's answer says
-unfoldable pub asked : FromNumbers → Answer Request
-asked (Asked-is.Is q) = given q
-asked (Asked-is.Refused n) = refused n

@@ -5,21 +5,10 @@ use Rattle.std.specs.Float.{binary64}
 use Rattle.std.specs.Float.Ieee.{to_bits}
 use Rattle.refusal.specs.Answer.{Answer, given, refused, need, ROOM}
 use Rattle.steps.specs.Build.{over}
-use Rattle.fractions.specs.declared.Basis.{Basis}
 use Rattle.fractions.specs.declared.Parts.{Parts}
 use Rattle.fractions.specs.declared.reports.Sums.{Sums}
-use Rattle.fractions.specs.Fractions.{bases}
-use Rattle.crossing.specs.declared.years.NamedBasis.{NamedBasis}
-use Rattle.crossing.specs.declared.years.NamedBasis.TheVariants as basis-is
-use Rattle.crossing.specs.Numbers.{at_place}
+pub use Rattle.fractions.specs.Fractions.{basis_of}
 use Rattle.crossing.specs.Answers.{one_number_of, done}
-
-unfoldable pub basis_of : ℕ → Answer Basis
-basis_of = at_place bases
-
-unfoldable pub named_basis : NamedBasis → Answer Basis
-named_basis (basis-is.Is k) = given k
-named_basis (basis-is.Refused n) = refused n
 
 -- what is given, as one number: no fraction is below zero, so its bits are a number below 2 ^ 63
 abbrev pub bits : Float → ℕ

@@ -1,127 +1,109 @@
 // Answers in one number: what is given, or minus the number of the refusal.
-ghost use Rattle.std.specs.Prelude.{◌≡◌, pos, neg_ℤ, ◌+◌, ◌*◌};
-ghost use Rattle.date.specs.Date.{dated, split, numbered, compared};
-ghost use Rattle.calendar.specs.Calendar.{checked, decided};
+ghost use Rattle.std.specs.Prelude.{◌≡◌, ℕ, pos, neg_ℤ, ◌+◌, ◌*◌};
 ghost use Rattle.date.specs.Civil.{pick_n};
-ghost use Rattle.imm.specs.Imm.{tested, coded};
-ghost use Rattle.coming.specs.Coming.{meant};
-ghost use Rattle.crossing.specs.Indexes.{number_of};
-ghost use Rattle.crossing.specs.Answers.{one_number_of, itself, digits, place, yes, two_bytes, marked, done};
+ghost use Rattle.refusal.specs.Answer.{answered};
+ghost use Rattle.refusal.specs.Refusals.{number_of};
+ghost use Rattle.coming.specs.Coming.{said};
+ghost use Rattle.crossing.specs.Answers.{one_number_of, digits, place, yes, two_bytes, marked};
 
-use calendar::{Checked, Decided};
 use coming::Coming;
-use date::{Compared, Dated, Fields, Numbered, Split};
-use imm::Tested;
-use imm::codes::Coded;
-use opendays::Changed;
+use date::{Date, Fields};
+use imm::codes::Code;
+use refusal::Refusal;
+use std::cmp::Ordering;
 
-pub fn value(x: u32) -> i64
-    ensures { result ≡ pos x }
-{
-    x as i64
+// What crosses to other languages as a number.
+pub trait Crosses {
+    ghost crossing: { Self → ℕ };
+
+    fn cross(self) -> i64
+        ensures { result ≡ pos (crossing self) };
 }
 
-pub fn minus(n: u8) -> i64
-    ensures { result ≡ neg_ℤ (pos n) }
-{
-    -(n as i64)
-}
+// Where nothing but the refusals is of interest.
+impl Crosses for () {
+    ghost crossing = { λ x. 0 };
 
-pub fn of_dated(d: Dated) -> i64
-    ensures { result ≡ one_number_of itself (dated d) }
-{
-    match d {
-        Dated::Day(x) => value(x.day),
-        Dated::Refused(n) => minus(n),
+    fn cross(self) -> i64 {
+        0
     }
 }
 
-pub fn of_numbered(d: Numbered) -> i64
-    ensures { result ≡ one_number_of itself (numbered d) }
-{
-    match d {
-        Numbered::Number(n) => value(n),
-        Numbered::Refused(n) => minus(n),
+impl Crosses for u32 {
+    ghost crossing = { λ n. n };
+
+    fn cross(self) -> i64 {
+        i64::from(self)
     }
 }
 
-fn digits_of(f: Fields) -> i64
-    ensures { result ≡ pos (digits f) }
-{
-    let n = f.year as u64 * 10000 + f.month as u64 * 100 + f.day as u64;
-    n as i64
-}
+impl Crosses for Date {
+    ghost crossing = { λ d. d };
 
-pub fn of_split(d: Split) -> i64
-    ensures { result ≡ one_number_of digits (split d) }
-{
-    match d {
-        Split::Fields(f) => digits_of(f),
-        Split::Refused(n) => minus(n),
+    fn cross(self) -> i64 {
+        i64::from(self.day)
     }
 }
 
-pub fn of_compared(d: Compared) -> i64
-    ensures { result ≡ one_number_of place (compared d) }
-{
-    match d {
-        Compared::Before => value(0),
-        Compared::Same => value(1),
-        Compared::After => value(2),
-        Compared::Refused(n) => minus(n),
+impl Crosses for bool {
+    ghost crossing = { yes };
+
+    fn cross(self) -> i64 {
+        self as i64
     }
 }
 
-pub fn truth(b: bool) -> i64
-    ensures { result ≡ pos (yes b) }
-{
-    if b {
-        return value(1);
-    }
-    value(0)
-}
+impl Crosses for Ordering {
+    ghost crossing = { place };
 
-pub fn of_checked(d: Checked) -> i64
-    ensures { result ≡ one_number_of done (checked d) }
-{
-    match d {
-        Checked::Sound => value(0),
-        Checked::Refused(n) => minus(n),
+    fn cross(self) -> i64 {
+        match self {
+            Ordering::Less => 0,
+            Ordering::Equal => 1,
+            Ordering::Greater => 2,
+        }
     }
 }
 
-pub fn of_decided(d: Decided) -> i64
-    ensures { result ≡ one_number_of yes (decided d) }
-{
-    match d {
-        Decided::Yes => value(1),
-        Decided::No => value(0),
-        Decided::Refused(n) => minus(n),
+// 20250319 is 19 March 2025.
+impl Crosses for Fields {
+    ghost crossing = { digits };
+
+    fn cross(self) -> i64 {
+        let n = self.year as u64 * 10000 + self.month as u64 * 100 + self.day as u64;
+        n as i64
     }
 }
 
-pub fn of_tested(d: Tested) -> i64
-    ensures { result ≡ one_number_of yes (tested d) }
-{
-    match d {
-        Tested::Is(b) => truth(b),
-        Tested::Refused(n) => minus(n),
+// The two bytes of a code.
+impl Crosses for Code {
+    ghost crossing = { two_bytes };
+
+    fn cross(self) -> i64 {
+        let n = self.letter as u32 * 256 + self.digit as u32;
+        n as i64
     }
 }
 
-pub fn of_coded(d: Coded) -> i64
-    ensures { result ≡ one_number_of two_bytes (coded d) }
-{
-    match d {
-        Coded::Code(c) => value(c.letter as u32 * 256 + c.digit as u32),
-        Coded::Refused(n) => minus(n),
+// The day times 4, and 0 for an irregular period that ends there, 1 for a regular one, 2 for none; 0 where there is no later date.
+impl Crosses for Coming {
+    ghost crossing = { λ c. marked (said c) };
+
+    #[tactic(auto, unfolding(coming::specs::Coming::said))]
+    fn cross(self) -> i64 {
+        match self {
+            Coming::Effective(date) => with_mark(date.day, 2),
+            Coming::Ending { date, regular } => with_mark(date.day, mark_of(regular)),
+            Coming::Nothing => 0,
+        }
     }
 }
 
+#[tactic(auto, unfolding(date::specs::Civil::pick_n))]
 fn mark_of(regular: bool) -> u32
     ensures { result ≡ pick_n regular 1 0 }
 {
-    if regular { 1 } else { 0 }
+    regular as u32
 }
 
 fn with_mark(day: u32, mark: u32) -> i64
@@ -131,22 +113,24 @@ fn with_mark(day: u32, mark: u32) -> i64
     n as i64
 }
 
-pub fn of_coming(c: Coming) -> i64
-    ensures { result ≡ one_number_of marked (meant c) }
+// The interface has no other way to refuse.
+pub fn minus(n: u8) -> i64
+    ensures { result ≡ neg_ℤ (pos n) }
 {
-    match c {
-        Coming::Effective(d) => with_mark(d.day, 2),
-        Coming::Ending { date, regular } => with_mark(date.day, mark_of(regular)),
-        Coming::Nothing => value(0),
-        Coming::Refused(n) => minus(n),
-    }
+    -(n as i64)
 }
 
-pub fn of_changed(c: Changed) -> i64
-    ensures { result ≡ number_of c }
+pub fn refused(refusal: Refusal) -> i64
+    ensures { result ≡ neg_ℤ (pos (number_of refusal)) }
 {
-    match c {
-        Changed::Done => value(0),
-        Changed::Refused(n) => minus(n),
+    minus(refusal.number())
+}
+
+pub fn one_number<T: Crosses>(answer: Result<T, Refusal>) -> i64
+    ensures { result ≡ one_number_of T.crossing (answered answer) }
+{
+    match answer {
+        Ok(value) => value.cross(),
+        Err(refusal) => refused(refusal),
     }
 }

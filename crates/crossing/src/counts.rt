@@ -1,71 +1,73 @@
 // Counts with a sign: they stand in the first place of a lent list, since an answer below zero is a refusal. A list with no
 // place is 14, before all else, and a refusal leaves it as it was.
-ghost use Rattle.std.specs.Prelude.{◌≡◌};
-ghost use Rattle.refusal.specs.Answer.{then};
-ghost use Rattle.period.specs.Period.{product, times_of};
-ghost use Rattle.date.specs.Date.{counted};
-ghost use Rattle.calendar.specs.Moves.{moved};
-ghost use Rattle.crossing.specs.Answers.{FirstPlace, MovePlace, length_in};
+ghost use Rattle.std.specs.Prelude.{◌≡◌, ℕ, ℤ};
+ghost use Rattle.refusal.specs.Answer.{answered, then};
+ghost use Rattle.period.specs.Period.{times_of};
+ghost use Rattle.crossing.specs.Answers.{CountPlace, length_in};
 ghost use Rattle.crossing.specs.Numbers.{unit_of};
 
-use crate::{NamedUnit, answers};
+use crate::answers;
 use calendar::Moved;
-use date::Counted;
-use period::{Period, Product};
+use period::Period;
+use refusal::Refusal;
 
-pub fn put_counted(d: Counted, out: &mut [i32]) -> i64
-    ensures { FirstPlace (counted d) result out.old out.new }
-{
-    if out.len() < 1 {
-        return answers::minus(refusal::ROOM);
-    }
-    match d {
-        Counted::Days(n) => {
-            out[0] = n;
-            answers::value(0)
-        }
-        Counted::Refused(n) => answers::minus(n),
+// What has a count with a sign, which crosses in a lent list, beside a number.
+pub trait Counts {
+    ghost number: { Self → ℕ };
+
+    ghost count: { Self → ℤ };
+
+    fn parts(self) -> (u32, i32)
+        ensures number { result.0 ≡ number self }
+        ensures count { result.1 ≡ count self };
+}
+
+// A count alone.
+impl Counts for i32 {
+    ghost number = { λ n. 0 };
+
+    ghost count = { λ n. n };
+
+    fn parts(self) -> (u32, i32) {
+        (0, self)
     }
 }
 
-// The date, and the days that it moved in the list.
-pub fn put_moved(m: Moved, place: &mut [i32]) -> i64
-    ensures { MovePlace (moved m) result place.old place.new }
-{
-    if place.len() < 1 {
-        return answers::minus(refusal::ROOM);
-    }
-    match m {
-        Moved::Day { date, days } => {
-            place[0] = days;
-            answers::value(date.day)
-        }
-        Moved::Refused(n) => answers::minus(n),
+impl Counts for Moved {
+    ghost number = { λ m. m.0 };
+
+    ghost count = { λ m. m.1 };
+
+    fn parts(self) -> (u32, i32) {
+        (self.date.day, self.days)
     }
 }
 
-fn length_of(p: Product) -> Counted
-    ensures { counted result ≡ length_in (product p) }
+pub fn put_count<T: Counts + Drop>(answer: Result<T, Refusal>, list: &mut [i32]) -> i64
+    ensures { CountPlace T.number T.count (answered answer) result list.old list.new }
 {
-    match p {
-        Product::Period(x) => Counted::Days(x.length),
-        Product::Refused(n) => Counted::Refused(n),
+    if list.len() < 1 {
+        return answers::refused(Refusal::Room);
+    }
+    match answer {
+        Ok(value) => {
+            let (number, count) = value.parts();
+            list[0] = count;
+            number as i64
+        }
+        Err(refusal) => answers::refused(refusal),
     }
 }
 
 // The length of a tenor that is taken `count` times.
-pub fn times(tenor: i32, unit: u8, count: i32) -> Counted
-    ensures { counted result ≡ then (unit_of unit) (λ u. length_in (times_of tenor u count)) }
+#[tactic(auto, unfolding(crate::specs::Answers::length_in, refusal::specs::Answer::then))]
+pub fn times(tenor: i32, unit: u8, count: i32) -> Result<i32, Refusal>
+    ensures { answered result ≡ then (unit_of unit) (λ u. length_in (times_of tenor u count)) }
 {
-    let named = crate::unit_of(unit);
-    match named {
-        NamedUnit::Is(u) => {
-            let period = Period {
-                length: tenor,
-                unit: u,
-            };
-            length_of(period.times(count))
-        }
-        NamedUnit::Refused(n) => Counted::Refused(n),
-    }
+    let unit = crate::unit_of(unit)?;
+    let period = Period {
+        length: tenor,
+        unit,
+    };
+    Ok(period.times(count)?.length)
 }

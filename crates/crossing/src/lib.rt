@@ -3,10 +3,12 @@
 #![tactic(auto)]
 
 ghost use Rattle.std.specs.Prelude.{◌≡◌};
-ghost use Rattle.crossing.specs.Numbers.{unit_of, rule_of, convention_of, flag_of, unit_number, named_unit, named_rule, named_convention, named_flag};
+ghost use Rattle.refusal.specs.Answer.{answered};
+ghost use Rattle.crossing.specs.Numbers.{unit_of, rule_of, convention_of, flag_of, unit_number};
 
 use calendar::Convention;
 use period::Unit;
+use refusal::Refusal;
 use steps::Rule;
 
 // Answers as one number.
@@ -20,90 +22,48 @@ pub mod requests;
 // Year fractions.
 pub mod years;
 
-#[derive(Clone, Copy)]
-pub enum NamedUnit {
-    Is(Unit),
-    Refused(u8),
+#[tactic(auto, unfolding(crate::specs::Numbers::unit_of))]
+pub fn unit_of(n: u8) -> Result<Unit, Refusal>
+    ensures { answered result ≡ unit_of n }
+{
+    Unit::try_from(n)
 }
 
-#[derive(Clone, Copy)]
-pub enum NamedRule {
-    Is(Rule),
-    Refused(u8),
+#[tactic(auto, unfolding(crate::specs::Numbers::rule_of, steps::specs::Rules::rule_of))]
+pub fn rule_of(n: u8) -> Result<Rule, Refusal>
+    ensures { answered result ≡ rule_of n }
+{
+    Rule::try_from(n)
 }
 
-#[derive(Clone, Copy)]
-pub enum NamedConvention {
-    Is(Convention),
-    Refused(u8),
-}
-
-#[derive(Clone, Copy)]
-pub enum NamedFlag {
-    Is(bool),
-    Refused(u8),
-}
-
-pub fn unit_of(n: u8) -> NamedUnit
-    ensures { named_unit result ≡ unit_of n }
+#[tactic(auto, unfolding(crate::specs::Numbers::convention_of, calendar::specs::Adjust::conventions))]
+pub fn convention_of(n: u8) -> Result<Convention, Refusal>
+    ensures { answered result ≡ convention_of n }
 {
     match n {
-        0 => NamedUnit::Is(Unit::Days),
-        1 => NamedUnit::Is(Unit::Weeks),
-        2 => NamedUnit::Is(Unit::Months),
-        3 => NamedUnit::Is(Unit::Years),
-        _ => NamedUnit::Refused(refusal::REQUEST),
+        0 => Ok(Convention::Unadjusted),
+        1 => Ok(Convention::Following),
+        2 => Ok(Convention::ModifiedFollowing),
+        3 => Ok(Convention::Preceding),
+        4 => Ok(Convention::ModifiedPreceding),
+        _ => Err(Refusal::Request),
     }
 }
 
-pub fn rule_of(n: u8) -> NamedRule
-    ensures { named_rule result ≡ rule_of n }
+#[tactic(auto, unfolding(crate::specs::Numbers::flag_of))]
+pub fn flag_of(n: u8) -> Result<bool, Refusal>
+    ensures { answered result ≡ flag_of n }
 {
     match n {
-        0 => NamedRule::Is(Rule::Zero),
-        1 => NamedRule::Is(Rule::Backward),
-        2 => NamedRule::Is(Rule::Forward),
-        3 => NamedRule::Is(Rule::Twentieth),
-        4 => NamedRule::Is(Rule::TwentiethIMM),
-        5 => NamedRule::Is(Rule::ThirdWednesday),
-        6 => NamedRule::Is(Rule::ThirdWednesdayInclusive),
-        7 => NamedRule::Is(Rule::OldCDS),
-        8 => NamedRule::Is(Rule::CDS),
-        9 => NamedRule::Is(Rule::CDS2015),
-        _ => NamedRule::Refused(refusal::REQUEST),
+        0 => Ok(false),
+        1 => Ok(true),
+        _ => Err(Refusal::Request),
     }
 }
 
-pub fn convention_of(n: u8) -> NamedConvention
-    ensures { named_convention result ≡ convention_of n }
-{
-    match n {
-        0 => NamedConvention::Is(Convention::Unadjusted),
-        1 => NamedConvention::Is(Convention::Following),
-        2 => NamedConvention::Is(Convention::ModifiedFollowing),
-        3 => NamedConvention::Is(Convention::Preceding),
-        4 => NamedConvention::Is(Convention::ModifiedPreceding),
-        _ => NamedConvention::Refused(refusal::REQUEST),
-    }
-}
-
-pub fn flag_of(n: u8) -> NamedFlag
-    ensures { named_flag result ≡ flag_of n }
-{
-    match n {
-        0 => NamedFlag::Is(false),
-        1 => NamedFlag::Is(true),
-        _ => NamedFlag::Refused(refusal::REQUEST),
-    }
-}
-
+#[tactic(auto, unfolding(crate::specs::Numbers::unit_number))]
 pub fn unit_number(unit: Unit) -> u32
     ensures { result ≡ unit_number unit }
 {
-    match unit {
-        Unit::Days => 0,
-        Unit::Weeks => 1,
-        Unit::Months => 2,
-        Unit::Years => 3,
-    }
+    unit as u32
 }

@@ -1,34 +1,25 @@
 // The names of the refusals, in ASCII.
-ghost use Rattle.std.specs.Prelude.{◌≡◌, ◌≤◌, length, take};
-ghost use Rattle.steps.specs.Build.{over};
-ghost use Rattle.crossing.specs.Names.{name_of, Spelled, Naming};
+ghost use Rattle.std.specs.Prelude.{◌≡◌, ◌≤◌, length};
+ghost use Rattle.crossing.specs.Names.{name_of, Spelled};
 
 use crate::answers;
-use refusal::NameRow;
+use refusal::Refusal;
 
-// The row of the refusal that an answer gives; one with no name where it gives none.
-fn row_of(answer: i64) -> NameRow
-    ensures { Naming answer result }
+// The name of the refusal that an answer gives; empty where it gives none.
+fn name_in(answer: i64) -> &'static str
+    ensures name { result.now ≡ name_of answer }
+    ensures narrow { length result.now ≤ 16 }
 {
-    let mut k = 0;
-    while k < refusal::ROWS.len() {
-        let row = refusal::ROWS[k];
-        if answers::minus(row.0) == answer {
-            return row;
-        }
-        k += 1;
+    if 0 <= answer {
+        return "";
     }
-    NameRow(0, 0, [0; 16])
-}
-
-fn put_letters(name: &[u8], text: &mut [u8])
-    requires { length name.now ≤ length text.old }
-    ensures { text.new ≡ over name.now text.old }
-{
-    let mut k = 0;
-    while k < name.len() {
-        text[k] = name[k];
-        k += 1;
+    let number = answer.unsigned_abs();
+    if 255 < number {
+        return "";
+    }
+    match Refusal::try_from(number as u8) {
+        Ok(refusal) => refusal.name(),
+        Err(_) => "",
     }
 }
 
@@ -37,9 +28,9 @@ fn put_name(name: &[u8], text: &mut [u8]) -> i64
     ensures { Spelled name.now result text.old text.new }
 {
     if text.len() < name.len() {
-        return answers::minus(refusal::ROOM);
+        return answers::refused(Refusal::Room);
     }
-    put_letters(name, text);
+    text[..name.len()].copy_from_slice(name);
     name.len() as i64
 }
 
@@ -48,8 +39,5 @@ fn put_name(name: &[u8], text: &mut [u8]) -> i64
 pub fn put_refusal(answer: i64, text: &mut [u8]) -> i64
     ensures { Spelled (name_of answer) result text.old text.new }
 {
-    let row = row_of(answer);
-    let length = row.1;
-    let name = row.2;
-    put_name(&name[..length], text)
+    put_name(name_in(answer).as_bytes(), text)
 }

@@ -1,19 +1,15 @@
 // Requests in numbers; a unit, a rule, a convention or a flag outside its list is 17.
 ghost use Rattle.std.specs.Prelude.{◌≡◌};
-ghost use Rattle.crossing.specs.Requests.{asked, request_of};
+ghost use Rattle.refusal.specs.Answer.{answered};
+ghost use Rattle.crossing.specs.Requests.{request_of};
 
-use crate::{NamedConvention, NamedFlag, NamedRule, NamedUnit};
 use date::Date;
 use period::Period;
+use refusal::Refusal;
 use steps::Request;
 
-#[derive(Clone, Copy)]
-pub enum FromNumbers {
-    Is(Request),
-    Refused(u8),
-}
-
 // Length and unit of the tenor, the convention of the last date and the anchors among them: the eleven numbers that C hands over.
+#[tactic(auto, unfolding(crate::specs::Requests::request_of, refusal::specs::Answer::then))]
 pub fn request_of(
     effective: u32,
     termination: u32,
@@ -26,30 +22,15 @@ pub fn request_of(
     first: u32,
     penultimate: u32,
     mask: u8,
-) -> FromNumbers
-    ensures { asked result ≡ request_of effective termination tenor unit rule convention terminal monthend first penultimate mask }
+) -> Result<Request, Refusal>
+    ensures { answered result ≡ request_of effective termination tenor unit rule convention terminal monthend first penultimate mask }
 {
-    let unit = match crate::unit_of(unit) {
-        NamedUnit::Is(u) => u,
-        NamedUnit::Refused(n) => return FromNumbers::Refused(n),
-    };
-    let rule = match crate::rule_of(rule) {
-        NamedRule::Is(r) => r,
-        NamedRule::Refused(n) => return FromNumbers::Refused(n),
-    };
-    let convention = match crate::convention_of(convention) {
-        NamedConvention::Is(c) => c,
-        NamedConvention::Refused(n) => return FromNumbers::Refused(n),
-    };
-    let terminal = match crate::convention_of(terminal) {
-        NamedConvention::Is(t) => t,
-        NamedConvention::Refused(n) => return FromNumbers::Refused(n),
-    };
-    let monthend = match crate::flag_of(monthend) {
-        NamedFlag::Is(m) => m,
-        NamedFlag::Refused(n) => return FromNumbers::Refused(n),
-    };
-    FromNumbers::Is(Request {
+    let unit = crate::unit_of(unit)?;
+    let rule = crate::rule_of(rule)?;
+    let convention = crate::convention_of(convention)?;
+    let terminal = crate::convention_of(terminal)?;
+    let monthend = crate::flag_of(monthend)?;
+    Ok(Request {
         effective: Date { day: effective },
         termination: Date { day: termination },
         tenor: Period {

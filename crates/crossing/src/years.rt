@@ -3,33 +3,22 @@
 ghost use Rattle.std.specs.Prelude.{◌≡◌, T, pos};
 ghost use Rattle.std.specs.Float.{binary64};
 ghost use Rattle.std.specs.Float.Ieee.{to_bits, fits};
-ghost use Rattle.refusal.specs.Answer.{then};
-ghost use Rattle.fractions.specs.Fractions.{parted, parts_of, fraction_of};
-ghost use Rattle.fractions.specs.Reports.{reported};
+ghost use Rattle.refusal.specs.Answer.{answered, then};
+ghost use Rattle.fractions.specs.Fractions.{parts_of, fraction_of};
 ghost use Rattle.fractions.specs.Promise.{from_zero};
 ghost use Rattle.crossing.specs.Answers.{one_number_of};
-ghost use Rattle.crossing.specs.Years.{basis_of, named_basis, bits, two_parts, three_sums, Laid};
+ghost use Rattle.crossing.specs.Years.{basis_of, bits, two_parts, three_sums, Laid};
 
 use crate::answers;
 use date::Date;
-use fractions::reports::Reported;
-use fractions::{Basis, Fraction, Parted};
+use fractions::reports::Sums;
+use fractions::{Basis, Fraction, Parts};
+use refusal::Refusal;
 
-#[derive(Clone, Copy)]
-pub enum NamedBasis {
-    Is(Basis),
-    Refused(u8),
-}
-
-pub fn basis_of(n: u8) -> NamedBasis
-    ensures { named_basis result ≡ basis_of n }
+pub fn basis_of(n: u8) -> Result<Basis, Refusal>
+    ensures { answered result ≡ basis_of n }
 {
-    match n {
-        0 => NamedBasis::Is(Basis::Actual360),
-        1 => NamedBasis::Is(Basis::Actual365),
-        2 => NamedBasis::Is(Basis::Thirty360),
-        _ => NamedBasis::Refused(refusal::REQUEST),
-    }
+    Basis::try_from(n)
 }
 
 // A float that is not below zero has no sign bit, so that its bits are a number from 0.
@@ -51,56 +40,64 @@ fn of_basis(basis: Basis, start: u32, end: u32) -> i64
 }
 
 // The fraction of a period.
+#[tactic(auto, unfolding(refusal::specs::Answer::then))]
 pub fn fraction(basis: u8, start: u32, end: u32) -> i64
     ensures { result ≡ one_number_of bits (then (basis_of basis) (λ k. fraction_of k start end)) }
 {
-    let named = basis_of(basis);
-    match named {
-        NamedBasis::Is(k) => of_basis(k, start, end),
-        NamedBasis::Refused(n) => answers::minus(n),
+    match basis_of(basis) {
+        Ok(k) => of_basis(k, start, end),
+        Err(refusal) => answers::refused(refusal),
     }
 }
 
 // Numerator and denominator of a period.
-pub fn parts(basis: u8, start: u32, end: u32) -> Parted
-    ensures { parted result ≡ then (basis_of basis) (λ k. parts_of k start end) }
+#[tactic(auto, unfolding(refusal::specs::Answer::then))]
+pub fn parts(basis: u8, start: u32, end: u32) -> Result<Parts, Refusal>
+    ensures { answered result ≡ then (basis_of basis) (λ k. parts_of k start end) }
 {
-    let named = basis_of(basis);
-    match named {
-        NamedBasis::Is(k) => fractions::year_parts(k, Date { day: start }, Date { day: end }),
-        NamedBasis::Refused(n) => Parted::Refused(n),
+    fractions::year_parts(basis_of(basis)?, Date { day: start }, Date { day: end })
+}
+
+// Numbers over the start of a lent list.
+fn put_numbers<const N: usize>(numbers: Result<[u32; N], Refusal>, list: &mut [u32]) -> i64
+    ensures { Laid N (answered numbers.entry) result list.old list.new }
+{
+    if list.len() < N {
+        return answers::refused(Refusal::Room);
+    }
+    match numbers {
+        Ok(numbers) => {
+            list[..N].copy_from_slice(&numbers);
+            0
+        }
+        Err(refusal) => answers::refused(refusal),
     }
 }
 
-pub fn put_parts(p: Parted, list: &mut [u32]) -> i64
-    ensures { Laid 2 (then (parted p) two_parts) result list.old list.new }
+#[tactic(auto, unfolding(crate::specs::Years::two_parts, refusal::specs::Answer::then))]
+fn two_parts(parts: Result<Parts, Refusal>) -> Result<[u32; 2], Refusal>
+    ensures { answered result ≡ then (answered parts) two_parts }
 {
-    if list.len() < 2 {
-        return answers::minus(refusal::ROOM);
-    }
-    match p {
-        Parted::Parts(q) => {
-            list[0] = q.numerator;
-            list[1] = q.denominator;
-            answers::value(0)
-        }
-        Parted::Refused(n) => answers::minus(n),
-    }
+    let parts = parts?;
+    Ok([parts.numerator, parts.denominator])
 }
 
-pub fn put_report(p: Reported, list: &mut [u32]) -> i64
-    ensures { Laid 3 (then (reported p) three_sums) result list.old list.new }
+pub fn put_parts(parts: Result<Parts, Refusal>, list: &mut [u32]) -> i64
+    ensures { Laid 2 (then (answered parts) two_parts) result list.old list.new }
 {
-    if list.len() < 3 {
-        return answers::minus(refusal::ROOM);
-    }
-    match p {
-        Reported::Sums(s) => {
-            list[0] = s.actual360;
-            list[1] = s.actual365;
-            list[2] = s.thirty360;
-            answers::value(0)
-        }
-        Reported::Refused(n) => answers::minus(n),
-    }
+    put_numbers(two_parts(parts), list)
+}
+
+#[tactic(auto, unfolding(crate::specs::Years::three_sums, refusal::specs::Answer::then))]
+fn three_sums(sums: Result<Sums, Refusal>) -> Result<[u32; 3], Refusal>
+    ensures { answered result ≡ then (answered sums) three_sums }
+{
+    let sums = sums?;
+    Ok([sums.actual360, sums.actual365, sums.thirty360])
+}
+
+pub fn put_report(sums: Result<Sums, Refusal>, list: &mut [u32]) -> i64
+    ensures { Laid 3 (then (answered sums) three_sums) result list.old list.new }
+{
+    put_numbers(three_sums(sums), list)
 }

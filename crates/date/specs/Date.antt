@@ -1,51 +1,15 @@
 -- Document 01, "Days": what each function of a date answers. A date given lies in the book, and a result from 1800 to 2399.
 -- Assumes nothing.
-use Rattle.std.specs.Prelude.{ℕ, ◌+◌, ◌-◌, ◌*◌, ◌/◌, ◌%◌, min, Bool, true, false, ◌&&◌, eqb, leb, ltb, ℤ, nat_abs}
+use Rattle.std.specs.Prelude.{ℕ, ◌+◌, ◌-◌, ◌*◌, ◌/◌, ◌%◌, min, Bool, true, false, ◌&&◌, leb, ℤ, nat_abs}
 use Rattle.std.proofs.Math.IntN.{sub_ℕ}
-use Rattle.refusal.specs.Answer.{Answer, given, refused, need, then, BOOK}
+use Rattle.refusal.specs.Answer.{Answer, given, need, then, BOOK}
+use Rattle.std.specs.declared.cmp.Ordering.{Ordering}
+use Rattle.std.specs.Ordering.{nat_cmp}
 use Rattle.period.specs.Period.{is_negative}
 use Rattle.period.specs.declared.Unit.{Unit}
 use Rattle.period.specs.declared.Unit.TheVariants.{Days, Weeks, Months, Years}
 use Rattle.date.specs.declared.Fields.{Fields}
-use Rattle.date.specs.declared.Dated.{Dated}
-use Rattle.date.specs.declared.Dated.TheVariants.{Day, Refused}
-use Rattle.date.specs.declared.Split.{Split}
-use Rattle.date.specs.declared.Split.TheVariants as split-is
-use Rattle.date.specs.declared.Numbered.{Numbered}
-use Rattle.date.specs.declared.Numbered.TheVariants as numbered_is
-use Rattle.date.specs.declared.Counted.{Counted}
-use Rattle.date.specs.declared.Counted.TheVariants as counted_is
-use Rattle.date.specs.declared.Compared.{Compared}
-use Rattle.date.specs.declared.Compared.TheVariants as compared_is
 use Rattle.date.specs.Civil.{day_number, month_length, fields_of, weekday_of, days_until}
-
--- ---- what each case of an answer says: its value, or document 01's number
-pub data Order : Type 0 where
-  before : Order
-  same : Order
-  after : Order
-
-unfoldable pub dated : Dated → Answer ℕ
-dated (Day d) = given d.day
-dated (Refused n) = refused n
-
-unfoldable pub split : Split → Answer Fields
-split (split-is.Fields f) = given f
-split (split-is.Refused n) = refused n
-
-unfoldable pub numbered : Numbered → Answer ℕ
-numbered (numbered_is.Number k) = given k
-numbered (numbered_is.Refused n) = refused n
-
-unfoldable pub counted : Counted → Answer ℤ
-counted (counted_is.Days z) = given z
-counted (counted_is.Refused n) = refused n
-
-unfoldable pub compared : Compared → Answer Order
-compared compared_is.Before = given before
-compared compared_is.Same = given same
-compared compared_is.After = given after
-compared (compared_is.Refused n) = refused n
 
 -- ---- the book, and the span of results: 1800-01-01 to 2399-12-31
 unfoldable pub in_book : ℕ → Bool
@@ -59,6 +23,10 @@ SPAN_LAST = 876216
 
 unfoldable pub within_span : ℕ → Answer ℕ
 within_span n = need BOOK (leb SPAN_FIRST n) (need BOOK (leb n SPAN_LAST) (given n))
+
+-- a day that is given, in the book
+abbrev pub booked_of : ℕ → Answer ℕ
+booked_of n = need BOOK (in_book n) (given n)
 
 -- ---- make and fields
 unfoldable pub make_of : (y m d : ℕ) → Answer ℕ
@@ -128,10 +96,5 @@ nth_weekday_of n w m y =
 unfoldable pub difference_of : ℕ → ℕ → Answer ℤ
 difference_of a b = need BOOK (in_book a) (need BOOK (in_book b) (given (sub_ℕ a b)))
 
-unfoldable pub order_of : Bool → Bool → Order
-order_of true e = before
-order_of false true = same
-order_of false false = after
-
-unfoldable pub compare_of : ℕ → ℕ → Answer Order
-compare_of a b = need BOOK (in_book a) (need BOOK (in_book b) (given (order_of (ltb a b) (eqb a b))))
+unfoldable pub compare_of : ℕ → ℕ → Answer Ordering
+compare_of a b = need BOOK (in_book a) (need BOOK (in_book b) (given (nat_cmp a b)))

@@ -1,35 +1,32 @@
 // Days from 1800-01-01 to 2399-12-31: what the crates above use for dates that may lie beyond the book.
 ghost use Rattle.std.specs.Prelude.{◌≡◌, ◌+◌, ◌<◌, min};
-ghost use Rattle.date.specs.Date.{dated, within_span, in_month, last_of_month, step, shift_days, shift_months, shifted};
+ghost use Rattle.refusal.specs.Answer.{answered};
+ghost use Rattle.date.specs.Date.{within_span, in_month, last_of_month, step, shift_days, shift_months, shifted};
 
-use crate::{Date, Dated, civil};
+use crate::{Date, civil};
 use period::Unit;
+use refusal::Refusal;
 
 pub const FIRST: u32 = 657072;
 
 pub const LAST: u32 = 876216;
 
 // The day, or refusal 2 where it lies outside.
-pub fn within(n: u64) -> Dated
-    ensures { dated result ≡ within_span n }
+#[tactic(auto, unfolding(crate::specs::Date::within_span, refusal::specs::Answer::need))]
+pub fn within(n: u64) -> Result<Date, Refusal>
+    ensures { answered result ≡ within_span n }
 {
-    if FIRST as u64 <= n {
-        if n <= LAST as u64 {
-            return Dated::Day(Date { day: n as u32 });
-        }
+    if FIRST as u64 <= n && n <= LAST as u64 {
+        Ok(Date { day: n as u32 })
+    } else {
+        Err(Refusal::Book)
     }
-    Dated::Refused(refusal::BOOK)
-}
-
-pub(crate) fn least(a: u32, b: u32) -> u32
-    ensures { result ≡ min a b }
-{
-    if a < b { a } else { b }
 }
 
 // The number of the day of a month counted as 12 * year + month - 1, or of the month's last day where it is shorter; 0 outside. No month is
 // shorter than 28 days, so most days are numbered without a length. A number comes back in a register; a date would come through memory,
 // where its two parts, written apart and read as one, hold up a loop over candidates.
+#[tactic(auto, using(crate::proofs::Ends::not_over, crate::specs::Laws::Moves::month_day, crate::specs::Laws::Moves::month_day_0, crate::specs::Laws::Moves::month_early, crate::specs::Laws::Moves::month_late, crate::specs::Laws::Moves::month_outside, crate::specs::Laws::Moves::month_within))]
 fn number_in(t: u64, day: u32) -> u32
     ensures { within_span result ≡ in_month t day }
 {
@@ -51,22 +48,23 @@ fn number_in(t: u64, day: u32) -> u32
 }
 
 // The day of a month, or the month's last day where it is shorter.
-pub fn in_month(t: u64, day: u32) -> Dated
-    ensures { dated result ≡ in_month t day }
+pub fn in_month(t: u64, day: u32) -> Result<Date, Refusal>
+    ensures { answered result ≡ in_month t day }
 {
     within(number_in(t, day) as u64)
 }
 
 // A day's own number, taken for a day of the month, is past the month's end but for days of year 1, which lie outside. With 31 in
 // its place the compiler expands `in_month` here.
-pub fn last_of_month(n: u32) -> Dated
-    ensures { dated result ≡ last_of_month n }
+pub fn last_of_month(n: u32) -> Result<Date, Refusal>
+    ensures { answered result ≡ last_of_month n }
 {
     let f = civil::fields_of(n);
     in_month(12 * (f.year as u64) + (f.month as u64) - 1, n)
 }
 
 // k further on, or back; what lies before 0 is 0.
+#[tactic(auto, using(crate::specs::Laws::Moves::step_back, crate::specs::Laws::Moves::step_on))]
 fn step_by(back: bool, n: u64, k: u64) -> u64
     requires { n + k < 18446744073709551616 }
     ensures { result ≡ step back n k }
@@ -79,17 +77,18 @@ fn step_by(back: bool, n: u64, k: u64) -> u64
 }
 
 // The day k days after or before day n.
-fn shift_days(n: u32, back: bool, k: u64) -> Dated
+#[tactic(auto, unfolding(crate::specs::Date::shift_days, refusal::specs::Answer::need))]
+fn shift_days(n: u32, back: bool, k: u64) -> Result<Date, Refusal>
     requires { k < 1099511627776 }
-    ensures { dated result ≡ shift_days n back k }
+    ensures { answered result ≡ shift_days n back k }
 {
     within(step_by(back, n as u64, k))
 }
 
 // The same day k months after or before day n, or the last day of a shorter month.
-fn shift_months(n: u32, back: bool, k: u64) -> Dated
+fn shift_months(n: u32, back: bool, k: u64) -> Result<Date, Refusal>
     requires { k < 1099511627776 }
-    ensures { dated result ≡ shift_months n back k }
+    ensures { answered result ≡ shift_months n back k }
 {
     let f = civil::fields_of(n);
     let t = step_by(back, 12 * (f.year as u64) + (f.month as u64) - 1, k);
@@ -97,15 +96,16 @@ fn shift_months(n: u32, back: bool, k: u64) -> Dated
 }
 
 // The day of the month k months after or before month t, or that month's last day where it is shorter.
-pub fn months_from(t: u32, back: bool, k: u32, day: u32) -> Dated
-    ensures { dated result ≡ in_month (step back t k) day }
+pub fn months_from(t: u32, back: bool, k: u32, day: u32) -> Result<Date, Refusal>
+    ensures { answered result ≡ in_month (step back t k) day }
 {
     within(number_in(step_by(back, t as u64, k as u64), day) as u64)
 }
 
-fn shift(n: u32, back: bool, k: u64, unit: Unit) -> Dated
+#[tactic(auto, unfolding(crate::specs::Date::shifted, refusal::specs::Answer::need))]
+fn shift(n: u32, back: bool, k: u64, unit: Unit) -> Result<Date, Refusal>
     requires { k < 4294967296 }
-    ensures { dated result ≡ shifted n back k unit }
+    ensures { answered result ≡ shifted n back k unit }
 {
     match unit {
         Unit::Days => shift_days(n, back, k),
@@ -116,8 +116,8 @@ fn shift(n: u32, back: bool, k: u64, unit: Unit) -> Dated
 }
 
 // The day k units after or before day n.
-pub fn shift_by(n: u32, back: bool, k: u32, unit: Unit) -> Dated
-    ensures { dated result ≡ shifted n back k unit }
+pub fn shift_by(n: u32, back: bool, k: u32, unit: Unit) -> Result<Date, Refusal>
+    ensures { answered result ≡ shifted n back k unit }
 {
     shift(n, back, k as u64, unit)
 }

@@ -1,27 +1,24 @@
 -- A law for each way through the search over two lists, in the code's terms.
 -- Assumes nothing.
-use Prim.Native.Nat.{ℕ, ◌+◌, ◌-◌, ◌%◌, ◌≤◌, ◌<◌}
+use Prim.Native.Nat.{ℕ, ◌+◌, ◌-◌, ◌≤◌, ◌<◌}
 use mathlib.Core.Path.{◌≡◌, refl, sym, ap, ◌∙◌}
-use mathlib.Core.Bool.{Bool, true, false, not, ◌&&◌}
+use mathlib.Core.Bool.{Bool, true, false}
 use mathlib.Core.List.{List}
 use native.Mathlib.Omega.{arith}
 use lib.Dec.{leb}
-use borrow.Author.Tests.{leb-true, leb-false, le-leb, eq-eqb, ne_eqb, not-false}
-use Rattle.refusal.specs.Answer.{Answer, given, refused, need, BOOK}
-use Rattle.refusal.specs.Laws.Answers.{holds, both, then_given, then_refused}
+use Rattle.std.specs.Int.{abs_diff}
+use borrow.Author.Tests.{leb-true, leb-false, le-leb}
+use Rattle.refusal.specs.Answer.{Answer, given, refused}
+use Rattle.refusal.specs.Laws.Answers.{both}
 use Rattle.date.specs.declared.Fields.{Fields}
-use Rattle.date.specs.declared.Date.{Date}
-use Rattle.date.specs.declared.Dated.{Dated}
-use Rattle.date.specs.declared.Dated.TheVariants.{Day, Refused}
 use Rattle.date.specs.Civil.{gone, day_number, fields_of, fields_at, years_gone}
-use Rattle.date.specs.Date.{SPAN_FIRST, SPAN_LAST, dated, in_book, step, within_span}
-use Rattle.date.specs.Laws.Made.{given_day, refused_day}
+use Rattle.date.specs.Date.{SPAN_FIRST, SPAN_LAST, in_book, step}
 use Rattle.date.specs.Laws.Years.{gone_le, years_low, years_high}
 use Rattle.calendar.specs.Open.{is_open_day, closed_ok, calendar_ok}
 use Rattle.calendar.specs.Laws.Told.{ok_closed}
-use Rattle.calendar.specs.AnyCalendar.{in_span, first_open, found}
+use Rattle.calendar.specs.AnyCalendar.{in_span, first_open}
 use Rattle.desk.specs.Desk.{year_of, in_years, run_of, opens_over, calendars_ok}
-use Rattle.desk.specs.Runs.{Within}
+use Rattle.desk.specs.Runs.{Within, end_of}
 use Rattle.desk.specs.Laws.Years.{year_is, year_earlier, year_later, year_long, year_next, first_in, last_in}
 use Rattle.desk.specs.Laws.Cut.{cut_found, cut_rest}
 use Rattle.desk.specs.Laws.Runs.{run_ok, one_year}
@@ -165,73 +162,72 @@ module _ (f : Fields) (day : ℕ) (p : f ≡ fields_of day) (e : in_book day ≡
     former_span =
         rw (le-leb SPAN_FIRST (start - 1) (omega (arith, start_late)), le-leb (start - 1) SPAN_LAST (omega (arith, start_not_after, book_to day e))) refl
 
+-- ---- either way
+module _ (f : Fields) (day : ℕ) (p : f ≡ fields_of day) (e : in_book day ≡ true) where
+  pub way_small : (back : Bool) (end : ℕ) → end ≡ end_of back f.year → end < 4294967000
+  unfolding end_of
+  way_small false end l = last_small f day p e end l
+  way_small true end l = omega (arith, start_not_after f day p e end l, book_small day e)
+
+  pub way_some : (back : Bool) (end : ℕ) → end ≡ end_of back f.year → 1 ≤ end
+  unfolding end_of
+  way_some false end l = omega (arith, last_not_before f day p e end l, book_from day e)
+  way_some true end l = start_some f day p e end l
+
+  pub way_in : (back : Bool) (end : ℕ) → end ≡ end_of back f.year → (tries : ℕ) → tries ≤ abs_diff day end + 1 → Within back day tries f.year
+  unfolding end_of
+  way_in false end l tries h = ahead_in f day p e end l tries (omega (arith, last_not_before f day p e end l))
+  way_in true end l tries h = behind_in f day p e end l tries (omega (arith, start_not_after f day p e end l))
+
+  pub way_beyond : (back : Bool) (end : ℕ) → end ≡ end_of back f.year → (tries : ℕ) → tries ≤ 31 → Within back (step back end 1) tries (step back f.year 1)
+  unfolding end_of step
+  way_beyond false end l tries h = ahead_beyond f day p e end l tries h
+  way_beyond true end l tries h = behind_beyond f day p e end l tries h
+
+  pub way_span : (back : Bool) (end : ℕ) → end ≡ end_of back f.year → in_span (step back end 1) ≡ true
+  unfolding end_of step
+  way_span false end l = beyond_span f day p e end l
+  way_span true end l = former_span f day p e end l
+
+  pub way_year : (back : Bool) → in_years (step back f.year 1) ≡ true
+  unfolding step
+  way_year false = next_in_lem f day p e
+  way_year true = former_in f day p e
+
+  pub way_on : (back : Bool) (end : ℕ) → end ≡ end_of back f.year → step back end 1 ≡ step back day (abs_diff day end + 1)
+  unfolding end_of step
+  way_on false end l = omega (arith, last_not_before f day p e end l)
+  way_on true end l = omega (arith, start_not_after f day p e end l)
+
 -- ---- the calendar's search, lent the run of the year
 module _ (mask : ℕ) (desk house run : List ℕ) (back : Bool) (tries day year : ℕ) (r : Answer ℕ) where
-  pub first_there : (closed_ok desk ≡ true) × (closed_ok house ≡ true) × (in_years year ≡ true) × (in_span day ≡ true) × (tries ≤ 31) × Within back day tries year → run ≡ run_of desk house year → (closed_ok run ≡ true → in_span day ≡ true → tries ≤ 31 → r ≡ first_open (is_open_day mask run) back tries day) → r ≡ first_open (opens_over mask desk house) back tries day
-  first_there s p h =
-      let ok : closed_ok run ≡ true = ap closed_ok p ∙ run_ok desk house year s.0 s.1 in
-      h ok s.3 s.4
+  pub first_there : closed_ok desk ≡ true → closed_ok house ≡ true → (in_years year ≡ true) × (in_span day ≡ true) × (tries ≤ 31) × Within back day tries year → run ≡ run_of desk house year → (closed_ok run ≡ true → in_span day ≡ true → tries ≤ 31 → r ≡ first_open (is_open_day mask run) back tries day) → r ≡ first_open (opens_over mask desk house) back tries day
+  first_there d k s p h =
+      let ok : closed_ok run ≡ true = ap closed_ok p ∙ run_ok desk house year d k in
+      h ok s.1 s.2
       ∙ ap (λ (xs : List ℕ). first_open (is_open_day mask xs) back tries day) p
-      ∙ one_year mask desk house back tries day year s.5
+      ∙ one_year mask desk house back tries day year s.3
 
 -- ---- cut at the end of the year
 thirty_one : (left : ℕ) → left < 31 → left + (31 - left) ≡ 31
 thirty_one left h = omega arith
 
-module _ (opens : ℕ → Bool) (back : Bool) (day left : ℕ) (few : left < 31) (first : Dated) (h : dated first ≡ first_open opens back left day) where
-  pub cut_day : (x : Date) → first ≡ Day x → given x.day ≡ first_open opens back 31 day
-  cut_day x q =
-      sym (cut_found opens back left (31 - left) day x.day (given_day first x _ h q))
+module _ (opens : ℕ → Bool) (back : Bool) (day left : ℕ) (few : left < 31) where
+  pub cut_day : (x : ℕ) → given x ≡ first_open opens back left day → given x ≡ first_open opens back 31 day
+  cut_day x h =
+      sym (cut_found opens back left (31 - left) day x (sym h))
       ∙ ap (λ (k : ℕ). first_open opens back k day) (thirty_one left few)
 
-  pub cut_refused : (n next : ℕ) (r : Answer ℕ) → first ≡ Refused n → next ≡ step back day left → r ≡ first_open opens back (31 - left) next → r ≡ first_open opens back 31 day
-  cut_refused n next r q e w =
+  pub cut_refused : (n next : ℕ) (r : Answer ℕ) → refused n ≡ first_open opens back left day → next ≡ step back day left → r ≡ first_open opens back (31 - left) next → r ≡ first_open opens back 31 day
+  cut_refused n next r h e w =
       w
       ∙ ap (first_open opens back (31 - left)) e
-      ∙ sym (cut_rest opens back left (31 - left) day n (refused_day first n _ h q))
+      ∙ sym (cut_rest opens back left (31 - left) day n (sym h))
       ∙ ap (λ (k : ℕ). first_open opens back k day) (thirty_one left few)
 
-pub step_on : (day last : ℕ) → day ≤ last → last + 1 ≡ step false day (last - day + 1)
-unfolding step
-step_on day last h = omega arith
-
-pub step_back : (day start : ℕ) → start ≤ day → start - 1 ≡ step true day (day - start + 1)
-unfolding step
-step_back day start h = omega arith
-
-pub this_way : (opens : ℕ → Bool) (b back : Bool) (day : ℕ) (r : Answer ℕ) → r ≡ first_open opens b 31 day → back ≡ b → r ≡ first_open opens back 31 day
-this_way opens b back day r h e = h ∙ ap (λ (w : Bool). first_open opens w 31 day) (sym e)
-
--- ---- the day found
-module _ (opens : ℕ → Bool) (back : Bool) (day : ℕ) (e : in_book day ≡ true) (first : Dated) (h : dated first ≡ first_open opens back 31 day) where
-  pub found_day : (x : Date) (r : Answer ℕ) → first ≡ Day x → r ≡ within_span x.day → r ≡ need BOOK (in_span day) (found opens back day)
-  unfolding found
-  found_day x r q w = holds BOOK (in_span day) _ r (book_span day e) (then_given _ x.day _ _ (given_day first x _ h q) w)
-
-  pub found_none : (n : ℕ) → first ≡ Refused n → refused n ≡ need BOOK (in_span day) (found opens back day)
-  unfolding found
-  found_none n q = holds BOOK (in_span day) _ (refused n) (book_span day e) (then_refused _ n _ (refused_day first n _ h q))
-
 -- ---- the mask and both lists
-module _ (mask : ℕ) (desk house : List ℕ) where
-  pub all_shut : mask % 128 ≡ 127 → false ≡ calendars_ok mask desk house
-  unfolding calendars_ok calendar_ok
-  all_shut e = sym (rw (eq-eqb (mask % 128) 127 e) refl)
-
-  pub lists_decide : (mask % 128 ≡ 127 → ⊥) → (t : Bool) → t ≡ (closed_ok desk && closed_ok house) → t ≡ calendars_ok mask desk house
-  unfolding calendars_ok calendar_ok
-  lists_decide l t p = p ∙ sym (rw (ne_eqb (mask % 128) 127 l) refl)
-
-  module _ (t : Bool) (p : t ≡ calendars_ok mask desk house) (e : not t ≡ false) where
-    both_ok : (calendar_ok mask desk ≡ true) × (closed_ok house ≡ true)
-    unfolding calendars_ok
-    both_ok = both (calendar_ok mask desk) (closed_ok house) (sym p ∙ not-false t e)
-
-    pub desk_ok : closed_ok desk ≡ true
-    desk_ok = ok_closed mask desk both_ok.0
-
-    pub house_ok : closed_ok house ≡ true
-    house_ok = both_ok.1
-
-pub booked : (t : Bool) (day : ℕ) → t ≡ in_book day → not t ≡ false → in_book day ≡ true
-booked t day p e = sym p ∙ not-false t e
+pub sound_lists : (mask : ℕ) (desk house : List ℕ) → calendars_ok mask desk house ≡ true → (closed_ok desk ≡ true) × (closed_ok house ≡ true)
+unfolding calendars_ok
+sound_lists mask desk house e =
+    let b = both (calendar_ok mask desk) (closed_ok house) e in
+    (ok_closed mask desk b.0, b.1)

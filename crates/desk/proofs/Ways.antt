@@ -2,89 +2,27 @@
 -- Assumes nothing.
 use Prim.Native.Nat.{ℕ, zero, suc, ◌+◌, ◌-◌, ◌≤◌, ◌<◌}
 use mathlib.Core.Path.{◌≡◌, refl, sym, ap, ◌∙◌}
-use mathlib.Core.Bool.{Bool, true, false, not, ◌&&◌}
+use mathlib.Core.Bool.{Bool, true, false}
 use mathlib.Core.List.{List, [], ◌∷◌}
 use native.Mathlib.Omega.{arith}
 use lib.Dec.{eqb, leb}
 use lib.ListN.{length, get_or, take, drop, set}
-use borrow.Author.Tests.{leb-true, leb-false, le-leb, lt-leb, eq-eqb, ne_eqb, not-true, not-false}
-use Rattle.refusal.specs.Answer.{Answer, given, refused, need, then, BOOK, CALENDAR, ROOM}
-use Rattle.refusal.specs.Laws.Answers.{both, holds, need_given}
+use borrow.Author.Tests.{leb-true, leb-false, le-leb, lt-leb, eq-eqb, ne_eqb}
+use Rattle.refusal.specs.Answer.{Answer, given, refused, need, then, CALENDAR, ROOM}
+use Rattle.refusal.specs.Laws.Answers.{both, need_given}
 use Rattle.date.specs.Civil.{day_number}
 use Rattle.date.specs.Date.{make_of}
 use Rattle.calendar.specs.Open.{closed_ok}
 use Rattle.calendar.specs.Laws.Kept.{checked_keeps}
 use Rattle.calendar.specs.Inner.Places.{LowerBound}
-use Rattle.calendar.specs.declared.Checked.{Checked}
-use Rattle.calendar.specs.declared.Checked.TheVariants as checked-is
-use Rattle.calendar.specs.Calendar.{sound, checked}
-use Rattle.calendar.specs.Laws.Guards.{barred, cleared}
+use Rattle.std.specs.Prelude.{Result, Ok, Err}
+use Rattle.refusal.specs.declared.Refusal.{Refusal}
+use Rattle.refusal.specs.Refusals.{number_of}
 use Rattle.desk.specs.declared.Found.{Found}
-use Rattle.desk.specs.declared.Told.{Told}
-use Rattle.desk.specs.declared.Told.TheVariants as told_is
-use Rattle.desk.specs.Desk.{entries_in, or_else, run_of, in_years, asked_of, handed_over, lookup_of}
-use Rattle.desk.specs.Runs.{day_or, PartOf, pick_l, chosen, standing, Stands, Tells, count_of, Written, PlaceTold}
+use Rattle.desk.specs.Desk.{entries_in, or_else, run_of, in_years, asked_of}
+use Rattle.desk.specs.Runs.{day_or, holder_number, PartOf, pick_l, chosen, standing, Stands, Tells, count_of, Written, PlaceTold}
 use Rattle.desk.specs.Laws.Entries.{one_part}
 use Rattle.desk.specs.Laws.Years.{year_from, make_first, make_last, year_is, year_earlier, year_later, year_some, last_in}
-
--- ---- both lists
-module _ (desk house : List ℕ) (t : Bool) (p : t ≡ closed_ok desk) where
-  pub desk_broken : not t ≡ true → false ≡ (closed_ok desk && closed_ok house)
-  desk_broken e = rw (sym p ∙ not-true t e) refl
-
-  pub house_decides : not t ≡ false → (r : Bool) → r ≡ closed_ok house → r ≡ (closed_ok desk && closed_ok house)
-  house_decides e r q = rw (sym p ∙ not-false t e) q
-
--- ---- the question
-module _ (desk house : List ℕ) (year : ℕ) where
-  pub no_desk : (t : Bool) → t ≡ closed_ok desk → not t ≡ true → refused CALENDAR ≡ asked_of desk house year
-  unfolding asked_of need
-  no_desk t p e = rw (sym p ∙ not-true t e) refl
-
-  module _ (t : Bool) (p : t ≡ closed_ok desk) (e : not t ≡ false) where
-    pub no_house : (u : Bool) → u ≡ closed_ok house → not u ≡ true → refused CALENDAR ≡ asked_of desk house year
-    unfolding asked_of need
-    no_house u q f = rw (sym p ∙ not-false t e, sym q ∙ not-true u f) refl
-
-    module _ (u : Bool) (q : u ≡ closed_ok house) (f : not u ≡ false) where
-      pub no_year : (v : Bool) → v ≡ in_years year → not v ≡ true → refused BOOK ≡ asked_of desk house year
-      unfolding asked_of
-      no_year v r g = rw (sym p ∙ not-false t e, sym q ∙ not-false u f) (holds CALENDAR true _ _ refl (barred BOOK v _ (given sound) r g))
-
-      pub all_sound : (v : Bool) → v ≡ in_years year → not v ≡ false → given sound ≡ asked_of desk house year
-      unfolding asked_of
-      all_sound v r g = rw (sym p ∙ not-false t e, sym q ∙ not-false u f) (holds CALENDAR true _ _ refl (cleared BOOK v _ _ (given sound) r g refl))
-
--- a year that is answered: both lists keep their rule, and the year is one of 1800 to 2399
-module _ (desk house : List ℕ) (year : ℕ) (r : Checked) (h : checked r ≡ asked_of desk house year) where
-  module _ (e : r ≡ checked-is.Sound) where
-    pub asked : asked_of desk house year ≡ given sound
-    unfolding checked
-    asked = sym h ∙ rw e refl
-
-    pub sound_desk : closed_ok desk ≡ true
-    unfolding asked_of
-    sound_desk = (both (closed_ok desk) (closed_ok house) (need_given CALENDAR _ _ sound asked).0).0
-
-    pub sound_house : closed_ok house ≡ true
-    unfolding asked_of
-    sound_house = (both (closed_ok desk) (closed_ok house) (need_given CALENDAR _ _ sound asked).0).1
-
-    pub sound_year : in_years year ≡ true
-    unfolding asked_of
-    sound_year = (need_given BOOK (in_years year) (given sound) sound (need_given CALENDAR _ _ sound asked).1).0
-
-    pub answered : lookup_of desk house year ≡ run_of desk house year
-    unfolding lookup_of handed_over
-    answered = rw asked refl
-
-  pub refused_as : (n : ℕ) → r ≡ checked-is.Refused n → asked_of desk house year ≡ refused n
-  unfolding checked
-  refused_as n e = sym h ∙ rw e refl
-
-  pub unanswered : (n : ℕ) → r ≡ checked-is.Refused n → lookup_of desk house year ≡ []
-  unfolding checked lookup_of handed_over
-  unanswered n e = let q : asked_of desk house year ≡ refused n = sym h ∙ rw e refl in rw q refl
 
 -- ---- the first and the last day of a year
 module _ (y : ℕ) (a : Answer ℕ) (r : ℕ) where
@@ -232,14 +170,14 @@ module _ (desk house : List ℕ) (y : ℕ) where
           nowhere (entries_in y desk) desk house _ q
 
 -- ---- a place told, and written into a lent list
-module _ (desk house : List ℕ) (year : ℕ) (told : Told) (h : Tells desk house year told) where
-  pub tells_run : (f : Found) → told ≡ told_is.Run f → (asked_of desk house year ≡ given sound) × Stands (run_of desk house year) (entries_in year desk) desk house f.list f.start f.count
+module _ (desk house : List ℕ) (year : ℕ) (told : Result Found Refusal) (h : Tells desk house year told) where
+  pub tells_run : (f : Found) → told ≡ Ok f → (asked_of desk house year ≡ given tt) × Stands (run_of desk house year) (entries_in year desk) desk house (holder_number f.list) f.start f.count
   unfolding Tells
   tells_run f e = rw e at h
 
-  pub tells_refused : (n : ℕ) → told ≡ told_is.Refused n → asked_of desk house year ≡ refused n
+  pub tells_refused : (r : Refusal) → told ≡ Err r → asked_of desk house year ≡ refused (number_of r)
   unfolding Tells
-  tells_refused n e = rw e at h
+  tells_refused r e = rw e at h
 
 module _ (desk house : List ℕ) (year : ℕ) (lent lent' : List ℕ) where
   pub no_room : length lent < 2 → lent' ≡ lent → PlaceTold desk house year (refused ROOM) lent lent'
@@ -252,11 +190,11 @@ module _ (desk house : List ℕ) (year : ℕ) (lent lent' : List ℕ) where
     q : leb 2 (length lent) ≡ true
     q = le-leb 2 (length lent) room
 
-    pub place_refused : (n : ℕ) → asked_of desk house year ≡ refused n → lent' ≡ lent → PlaceTold desk house year (refused n) lent lent'
+    pub place_refused : (n : ℕ) (r : Answer ℕ) → r ≡ refused n → asked_of desk house year ≡ refused n → lent' ≡ lent → PlaceTold desk house year r lent lent'
     unfolding count_of need then Written
-    place_refused n a e = record { says = sym (rw (q, a) refl); writes = rw (q, a) e }
+    place_refused n r h a e = record { says = h ∙ sym (rw (q, a) refl); writes = rw (q, a) e }
 
-    pub place_put : (list start count : ℕ) (r : Answer ℕ) → (asked_of desk house year ≡ given sound) × Stands (run_of desk house year) (entries_in year desk) desk house list start count → (r ≡ given count) × (lent' ≡ set (set lent 0 list) 1 start) → PlaceTold desk house year r lent lent'
+    pub place_put : (list start count : ℕ) (r : Answer ℕ) → (asked_of desk house year ≡ given tt) × Stands (run_of desk house year) (entries_in year desk) desk house list start count → (r ≡ given count) × (lent' ≡ set (set lent 0 list) 1 start) → PlaceTold desk house year r lent lent'
     unfolding count_of need then Written
     place_put list start count r t w =
         let s = t.1 in
@@ -290,11 +228,11 @@ chosen_short list desk house p s = by (eqb list 1) (eqb list 2)
     by : (a b : Bool) → length (pick_l a desk (pick_l b house [])) ≤ 4096
     by a b = pick_short a b desk house (short desk p) (short house s)
 
-module _ (desk house : List ℕ) (year list start count : ℕ) (t : (asked_of desk house year ≡ given sound) × Stands (run_of desk house year) (entries_in year desk) desk house list start count) where
+module _ (desk house : List ℕ) (year list start count : ℕ) (t : (asked_of desk house year ≡ given tt) × Stands (run_of desk house year) (entries_in year desk) desk house list start count) where
   all_short : start + count ≤ 4096
   unfolding asked_of
   all_short =
-      let ok = both (closed_ok desk) (closed_ok house) (need_given CALENDAR _ _ sound t.0).0 in
+      let ok = both (closed_ok desk) (closed_ok house) (need_given CALENDAR _ _ tt t.0).0 in
       omega (arith, t.1.within, chosen_short list desk house ok.0 ok.1)
 
   pub start_small : start < 4294967296

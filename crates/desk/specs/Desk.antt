@@ -6,7 +6,6 @@ use Rattle.date.specs.Civil.{fields_of}
 use Rattle.date.specs.Date.{in_book}
 use Rattle.calendar.specs.declared.Convention.{Convention}
 use Rattle.calendar.specs.Open.{is_open_day, closed_ok, calendar_ok}
-use Rattle.calendar.specs.Calendar.{Sound, sound}
 use Rattle.calendar.specs.Moves.{moved_from}
 use Rattle.calendar.specs.AnyCalendar as any
 
@@ -35,11 +34,11 @@ run_of desk house year = or_else (entries_in year desk) (entries_in year house)
 unfoldable pub in_years : (year : ℕ) → Bool
 in_years year = leb 1800 year && leb year 2399
 
-unfoldable pub asked_of : (desk house : List ℕ) (year : ℕ) → Answer Sound
-asked_of desk house year = need CALENDAR (closed_ok desk && closed_ok house) (need BOOK (in_years year) (given sound))
+unfoldable pub asked_of : (desk house : List ℕ) (year : ℕ) → Answer (Prim.Unit {0})
+asked_of desk house year = need CALENDAR (closed_ok desk && closed_ok house) (need BOOK (in_years year) (given tt))
 
-unfoldable pub handed_over : Answer Sound → (run : List ℕ) → List ℕ
-handed_over (given sound) run = run
+unfoldable pub handed_over : Answer (Prim.Unit {0}) → (run : List ℕ) → List ℕ
+handed_over (given ok) run = run
 handed_over (refused n) run = []
 
 unfoldable pub lookup_of : (desk house : List ℕ) (year : ℕ) → List ℕ

@@ -1,16 +1,24 @@
 -- Where a run stands in the two lists. Terms of promises between our own functions, and of the place that is told beside a run.
 -- Assumes nothing.
-use Rattle.std.specs.Prelude.{ℕ, ◌+◌, ◌-◌, ◌≤◌, ◌<◌, ◌≡◌, Bool, true, false, List, [], ◌∷◌, ◌++◌, eqb, leb, length, take, drop, set}
+use Rattle.std.specs.Prelude.{ℕ, ◌+◌, ◌-◌, ◌≤◌, ◌<◌, ◌≡◌, Bool, true, false, List, [], ◌∷◌, ◌++◌, eqb, leb, length, take, drop, set, Result, Ok, Err}
 use Rattle.refusal.specs.Answer.{Answer, given, refused, need, then, ROOM, FULL}
 use Rattle.date.specs.Date.{step}
-use Rattle.calendar.specs.Calendar.{Sound, sound}
-use Rattle.desk.specs.declared.Told.{Told}
-use Rattle.desk.specs.declared.Told.TheVariants as told_is
+use Rattle.refusal.specs.declared.Refusal.{Refusal}
+use Rattle.refusal.specs.Refusals.{number_of}
+use Rattle.date.specs.Civil.{day_number}
+use Rattle.desk.specs.declared.Found.{Found}
+use Rattle.desk.specs.declared.Holder.{Holder}
+use Rattle.desk.specs.declared.Holder.TheVariants.{Neither, Desk, House}
 use Rattle.desk.specs.Desk.{year_of, entries_in, run_of, asked_of, combined}
 
 unfoldable pub day_or : Answer ℕ → ℕ
 day_or (given day) = day
 day_or (refused n) = 0
+
+-- the last day of a year that a search that way comes to
+unfoldable pub end_of : (back : Bool) (year : ℕ) → ℕ
+end_of false year = day_number year 12 31
+end_of true year = day_number year 1 1
 
 -- the entries of a year are this part of the list
 pub record PartOf (list : List ℕ) (year start end : ℕ) : Type 0 where
@@ -25,6 +33,11 @@ pick_l false list other = other
 
 unfoldable pub chosen : (list : ℕ) (desk house : List ℕ) → List ℕ
 chosen list desk house = pick_l (eqb list 1) desk (pick_l (eqb list 2) house [])
+
+abbrev pub holder_number : Holder → ℕ
+holder_number Neither = 0
+holder_number Desk = 1
+holder_number House = 2
 
 -- which list the answer to a lookup stands in
 unfoldable pub standing : (run own : List ℕ) → ℕ
@@ -41,11 +54,11 @@ pub record Stands (run own desk house : List ℕ) (list start count : ℕ) : Typ
   pub none : count ≡ 0 → start ≡ 0
 
 -- a place that is told, or the refusal that the question gives
-unfoldable pub Tells : (desk house : List ℕ) (year : ℕ) → Told → Type 0
-Tells desk house year (told_is.Run f) =
-    (asked_of desk house year ≡ given sound)
-    × Stands (run_of desk house year) (entries_in year desk) desk house f.list f.start f.count
-Tells desk house year (told_is.Refused n) = asked_of desk house year ≡ refused n
+unfoldable pub Tells : (desk house : List ℕ) (year : ℕ) → Result Found Refusal → Type 0
+Tells desk house year (Ok f) =
+    (asked_of desk house year ≡ given tt)
+    × Stands (run_of desk house year) (entries_in year desk) desk house (holder_number f.list) f.start f.count
+Tells desk house year (Err r) = asked_of desk house year ≡ refused (number_of r)
 
 -- ---- the same in a lent list of two places: 14 where it is shorter, before all else
 unfoldable pub count_of : (desk house : List ℕ) (year room : ℕ) → Answer ℕ
@@ -81,5 +94,5 @@ pub record Turns (desk house : List ℕ) (front own next : ℕ) : Type 0 where
   pub same : combined desk house ≡ take front house ++ (take own desk ++ combined (drop own desk) (drop next house))
 
 -- so many entries in so much room: 23 for more than 4,096, then 14
-unfoldable pub room_for : (n room : ℕ) → Answer Sound
-room_for n room = need FULL (leb n 4096) (need ROOM (leb n room) (given sound))
+unfoldable pub room_for : (n room : ℕ) → Answer (Prim.Unit {0})
+room_for n room = need FULL (leb n 4096) (need ROOM (leb n room) (given tt))

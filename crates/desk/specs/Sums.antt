@@ -6,13 +6,12 @@ use Rattle.date.specs.Civil.{leap, row_of, gone, sum_to, day_number, guess, year
 use Rattle.date.specs.Date.{in_book, within_span, month_index, step}
 use Rattle.calendar.specs.declared.Convention.TheVariants.{Unadjusted, Following, Preceding, ModifiedPreceding}
 use Rattle.calendar.specs.Open.{weekly_closed, member, is_open_day, ascending, closed_ok, calendar_ok}
-use Rattle.calendar.specs.Calendar.{Sound, sound}
 use Rattle.calendar.specs.Moves.{moved_from}
 use Rattle.calendar.specs.AnyCalendar.{in_span, same_month, taken_or, unless_left, first_open, found, modified, by_convention, adjusted}
 use Rattle.desk.specs.Desk.{year_of, kept, entries_in, or_else, run_of, in_years, asked_of, handed_over, lookup_of, opens_over, calendars_ok, adjust_over_of, adjust_over_move_of, has_none, left_to, before, put, put_if, combined, combine_of, lent_after}
 
-unfoldable asked : Answer Sound → ℕ
-asked (given sound) = 0
+unfoldable asked : Answer (Prim.Unit {0}) → ℕ
+asked (given ok) = 0
 asked (refused n) = n
 
 abbrev house : List ℕ

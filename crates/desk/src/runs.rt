@@ -1,14 +1,11 @@
 // Where the entries of a year stand, on lists that keep their rule and a year from 1800 to 2399.
 ghost use Rattle.std.specs.Prelude.{◌≡◌, true, ◌≤◌, ◌<◌, length, set};
-ghost use Rattle.refusal.specs.Answer.{given};
-ghost use Rattle.date.specs.Date.{numbered};
 ghost use Rattle.calendar.specs.Open.{closed_ok};
 ghost use Rattle.desk.specs.Desk.{in_years, entries_in, run_of};
-ghost use Rattle.desk.specs.Runs.{PartOf, Stands};
+ghost use Rattle.desk.specs.Runs.{PartOf, Stands, holder_number};
 
-use crate::{Found, years};
+use crate::{Found, Holder, Lists, years};
 use calendar::closed_dates;
-use date::Numbered;
 
 #[derive(Drop)]
 struct Stretch {
@@ -39,34 +36,34 @@ fn entries(list: &[u32], year: u32) -> &[u32]
 }
 
 // The run of a year.
-pub(crate) fn held<'a>(desk: &'a [u32], house: &'a [u32], year: u32) -> &'a [u32]
-    requires { (closed_ok desk.now ≡ true) × (closed_ok house.now ≡ true) × (in_years year ≡ true) }
-    ensures { result.now ≡ run_of desk.now house.now year }
+pub(crate) fn held<'a>(lists: Lists<'a>, year: u32) -> &'a [u32]
+    requires { in_years year ≡ true }
+    ensures { result.now ≡ run_of lists.entry.desk.now lists.entry.house.now year }
 {
-    let own = entries(desk, year);
+    let own = entries(lists.desk, year);
     if 0 < own.len() {
         return own;
     }
-    entries(house, year)
+    entries(lists.house, year)
 }
 
 // Where it stands.
-pub(crate) fn find(desk: &[u32], house: &[u32], year: u32) -> Found
-    requires { (closed_ok desk.now ≡ true) × (closed_ok house.now ≡ true) × (in_years year ≡ true) }
-    ensures { Stands (run_of desk.now house.now year) (entries_in year desk.now) desk.now house.now result.list result.start result.count }
+pub(crate) fn find<'a>(lists: Lists<'a>, year: u32) -> Found
+    requires { in_years year ≡ true }
+    ensures { Stands (run_of lists.entry.desk.now lists.entry.house.now year) (entries_in year lists.entry.desk.now) lists.entry.desk.now lists.entry.house.now (holder_number result.list) result.start result.count }
 {
-    let own = stretch_of(desk, year);
+    let own = stretch_of(lists.desk, year);
     if own.start < own.end {
         return Found {
-            list: 1,
+            list: Holder::Desk,
             start: own.start,
             count: own.end - own.start,
         };
     }
-    let other = stretch_of(house, year);
+    let other = stretch_of(lists.house, year);
     if other.start < other.end {
         return Found {
-            list: 2,
+            list: Holder::House,
             start: other.start,
             count: other.end - other.start,
         };
@@ -75,11 +72,11 @@ pub(crate) fn find(desk: &[u32], house: &[u32], year: u32) -> Found
 }
 
 // A place written into the first two of a list, and how many entries it has.
-pub(crate) fn put(found: Found, out: &mut [u32]) -> Numbered
+pub(crate) fn put(found: Found, out: &mut [u32]) -> u32
     requires { (2 ≤ length out.old) × (found.start < 4294967296) × (found.count < 4294967296) }
-    ensures { (numbered result ≡ given found.count) × (out.new ≡ set (set out.old 0 found.list) 1 found.start) }
+    ensures { (result ≡ found.count) × (out.new ≡ set (set out.old 0 (holder_number found.list)) 1 found.start) }
 {
     out[0] = found.list as u32;
     out[1] = found.start as u32;
-    Numbered::Number(found.count as u32)
+    found.count as u32
 }

@@ -15,39 +15,18 @@ use lib.Signed.{mag}
 use mir.Syntax.{w64}
 use mir.Val.{to_z, of_z}
 use Rattle.crossing.specs.Laws.Calls.{handed}
+use Rattle.std.specs.Prelude.{Option, None, Some, Result, Err}
+use Rattle.refusal.specs.declared.Refusal.{Refusal}
+use Rattle.refusal.specs.declared.Refusal.TheVariants.{Buffer}
 use Rattle.request.specs.Format.{pick}
 use Rattle.request.specs.Laws.Picks.{taken, left}
 use Rattle.request.specs.declared.Decoded.{Decoded}
-use Rattle.request.specs.declared.Decoded.TheVariants.{Asked, Refused}
-use Rattle.steps.specs.declared.Request.{Request}
 use Rattle.feeding.specs.declared.State.{State}
-use Rattle.feeding.specs.declared.Said.{Said}
-use Rattle.feeding.specs.declared.Said.TheVariants.{More, Is}
-use Rattle.feeding.specs.Feed.{at, fresh, refused_buffer, Feeds, Finishes, eaten, laid}
+use Rattle.feeding.specs.Feed.{at, fresh, Feeds, Finishes, eaten, laid}
 use Rattle.feeding.specs.Laws.Run.{goes_on as goes_on_lem, body_eaten, body_laid}
-use Rattle.fed.specs.Words.{sum_of, less_of, with_state, Put, places_in, state_in, with_numbers, goes_on, runs_of}
-use Rattle.fed.specs.Handed.{numbers_of, decoded_number, number_of, decoded_words, said_words, Renewed, Stepped, Fed, Ended}
+use Rattle.fed.specs.Words.{sum_of, less_of, with_state, Put, places_in, state_in, goes_on, runs_of}
+use Rattle.fed.specs.Handed.{decoded_number, number_of, decoded_words, said_words, Renewed, Stepped, Fed, Ended}
 use Rattle.fed.proofs.WordWays.{sum_small, less_within}
-
--- ---- the numbers of a request
-module _ (x : List ℕ) where
-  pub words_found : {d : Decoded} {q : Request} {n : ℕ} {ns x' : List ℕ} → d ≡ Asked q n → ns ≡ numbers_of q n → x' ≡ with_numbers x 20 ns → x' ≡ decoded_words d x
-  unfolding decoded_words
-  words_found e is w = w ∙ ap (with_numbers x 20) is ∙ ap (λ (y : Decoded). decoded_words y x) (sym e)
-
-  pub words_refused : {d : Decoded} {n : ℕ} → d ≡ Refused n → x ≡ decoded_words d x
-  unfolding decoded_words
-  words_refused e = ap (λ (y : Decoded). decoded_words y x) (sym e)
-
-  pub words_more : {said : Said} → said ≡ More → x ≡ said_words said x
-  unfolding said_words
-  words_more e = ap (λ (y : Said). said_words y x) (sym e)
-
-  pub words_said : {said : Said} {d : Decoded} {x' : List ℕ} → said ≡ Is d → x' ≡ decoded_words d x → x' ≡ said_words said x
-  unfolding said_words
-  words_said e w = w ∙ ap (λ (y : Said). said_words y x) (sym e)
-
-pub ruleset told = (words_found, words_refused, words_more, words_said, rules)
 
 -- ---- a reset
 pub renewed : {x y x' : List ℕ} {s : State} → y ≡ replicate 46 0 → s ≡ fresh → Put s y x' → Renewed x (pos 0) x'
@@ -59,10 +38,10 @@ pub ruleset renewals = (renewed, rules)
 words_after : (s' : State) (y x' z : List ℕ) → Put s' y x' → y ≡ z → x' ≡ with_state (state_in x') z
 words_after s' y x' z p e = p.words ∙ (λ i. with_state (sym p.state i) (e i))
 
-module _ {x buffer closed y x' : List ℕ} {s s' : State} {said : Said} {r : ℤ} where
-  pub stepped : {part buffer' closed' : List ℕ} → 20000 ≤ length buffer → s ≡ state_in x → Feeds s (take (length part - 0) (drop 0 part)) buffer closed said s' buffer' closed'
+module _ {x buffer closed y x' : List ℕ} {s s' : State} {r : ℤ} where
+  pub stepped : {said : Option (Result Decoded Refusal)} {part buffer' closed' : List ℕ} → 20000 ≤ length buffer → s ≡ state_in x → Feeds s (take (length part - 0) (drop 0 part)) buffer closed said s' buffer' closed'
       → y ≡ said_words said x → Put s' y x' → mag r < 9223372036854775808 → r ≡ number_of said → Stepped x part buffer closed (to_z w64 (of_z w64 r)) x' buffer' closed'
-  stepped {part} {buffer'} {closed'} g is f numbers p m a =
+  stepped {said} {part} {buffer'} {closed'} g is f numbers p m a =
       let n : length part - 0 ≡ length part = omega arith in
       let whole : take (length part - 0) part ≡ part = ap (λ (k : ℕ). take k part) n ∙ take-length part in
       record {
@@ -72,14 +51,14 @@ module _ {x buffer closed y x' : List ℕ} {s s' : State} {said : Said} {r : ℤ
         words = words_after s' y x' (said_words said x) p numbers ∙ sym (left _ _ (le-ltb _ _ g));
       }
 
-  pub ended : {closed' : List ℕ} → 20000 ≤ length buffer → s ≡ state_in x → Finishes s buffer closed said s' closed'
-      → y ≡ said_words said x → Put s' y x' → mag r < 9223372036854775808 → r ≡ number_of said → Ended x buffer closed (to_z w64 (of_z w64 r)) x' closed'
-  ended {closed'} g is f numbers p m a =
+  pub ended : {said : Result Decoded Refusal} {closed' : List ℕ} → 20000 ≤ length buffer → s ≡ state_in x → Finishes s buffer closed said s' closed'
+      → y ≡ decoded_words said x → Put s' y x' → mag r < 9223372036854775808 → r ≡ decoded_number said → Ended x buffer closed (to_z w64 (of_z w64 r)) x' closed'
+  ended {said} {closed'} g is f numbers p m a =
       record {
         said = said;
         finishes = coe 0 1 (i. Finishes (is i) buffer closed said (sym p.state i) closed') f;
         answer = handed r m a;
-        words = words_after s' y x' (said_words said x) p numbers ∙ sym (left _ _ (le-ltb _ _ g));
+        words = words_after s' y x' (decoded_words said x) p numbers ∙ sym (left _ _ (le-ltb _ _ g));
       }
 
 -- a buffer that is too short
@@ -88,17 +67,17 @@ module _ {x buffer closed : List ℕ} {r : ℤ} (h : length buffer < 20000) (m :
   unfolding number_of decoded_number
   stepped_short =
       record {
-        said = refused_buffer;
+        said = Some (Err Buffer);
         feeds = record { state = sym (taken _ _ (lt-ltb _ _ h)); answer = sym (taken _ _ (lt-ltb _ _ h)); bytes = sym (taken _ _ (lt-ltb _ _ h)); dates = sym (taken _ _ (lt-ltb _ _ h)) };
         answer = handed r m a;
         words = sym (taken _ _ (lt-ltb _ _ h));
       }
 
   pub ended_short : Ended x buffer closed (to_z w64 (of_z w64 r)) x closed
-  unfolding number_of decoded_number
+  unfolding decoded_number
   ended_short =
       record {
-        said = refused_buffer;
+        said = Err Buffer;
         finishes = record { state = sym (taken _ _ (lt-ltb _ _ h)); answer = sym (taken _ _ (lt-ltb _ _ h)); dates = sym (taken _ _ (lt-ltb _ _ h)) };
         answer = handed r m a;
         words = sym (taken _ _ (lt-ltb _ _ h));
@@ -189,7 +168,7 @@ module _ (k : ℕ) (rest : List ℕ) (r : Runs (k ∷ rest) 1) (b : ℕ) where
   unfolding state_in
   open_still = eq-eqb _ _ finished_is
 
-  run_feeds : (buffer closed : List ℕ) → 20000 ≤ length buffer → Feeds (state_in x₀) (b ∷ []) buffer closed More (state_in ((k + 1) ∷ rest)) (set buffer k b) closed
+  run_feeds : (buffer closed : List ℕ) → 20000 ≤ length buffer → Feeds (state_in x₀) (b ∷ []) buffer closed None (state_in ((k + 1) ∷ rest)) (set buffer k b) closed
   run_feeds buffer closed g =
       record {
         state = run_eaten ∙ sym (left _ _ (le-ltb _ _ g) ∙ taken _ _ open_still);
@@ -205,7 +184,7 @@ unfolding number_of
 run_fed [] part buffer closed y r g = absurd (omega (arith, r.body))
 run_fed (k ∷ rest) [] buffer closed y r g = absurd (omega (arith, r.one))
 run_fed (k ∷ rest) (b ∷ []) buffer closed y r g =
-    record { said = More; feeds = run_feeds k rest r b buffer closed g; answer = refl; words = sym (left _ _ (le-ltb _ _ g) ∙ taken _ _ y) }
+    record { said = None; feeds = run_feeds k rest r b buffer closed g; answer = refl; words = sym (left _ _ (le-ltb _ _ g) ∙ taken _ _ y) }
 run_fed (k ∷ rest) (b ∷ c ∷ cs) buffer closed y r g = absurd (omega (arith, r.one))
 
 module _ {x part buffer closed : List ℕ} where

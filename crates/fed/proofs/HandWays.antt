@@ -1,11 +1,10 @@
 -- Laws of what is handed on: one for each way through the code.
 -- Assumes nothing.
-use Prim.Native.Nat.{ℕ, ◌<◌, ◌≤◌}
-use mathlib.Core.Path.{◌≡◌, sym, ap}
-use mathlib.Core.Bool.{Bool, true, false}
+use Prim.Native.Nat.{ℕ, ◌<◌}
+use mathlib.Core.Path.{◌≡◌}
+use mathlib.Core.Bool.{Bool}
 use mathlib.Core.List.{[], ◌∷◌}
 use borrow.Author.Rules.{rules}
-use borrow.Author.Tests.{lt-ltb, le-ltb}
 use lib.IntN.{nat_abs}
 use lib.Signed.{mag}
 use mir.Syntax.{w32}
@@ -17,31 +16,12 @@ use Rattle.steps.specs.declared.Request.{Request}
 use Rattle.steps.specs.Rules.{rule_number}
 use Rattle.crossing.specs.Answers.{yes}
 use Rattle.crossing.specs.Numbers.{unit_number}
-use Rattle.request.specs.Laws.Picks.{taken, left}
 use Rattle.fed.specs.Handed.{few, numbers_of}
-
-pub flag_yes : {b : Bool} → b ≡ true → 1 ≡ yes b
-unfolding yes
-flag_yes e = sym (ap yes e)
-
-pub flag_no : {b : Bool} → b ≡ false → 0 ≡ yes b
-unfolding yes
-flag_no e = sym (ap yes e)
-
-pub few_small : (n : ℕ) → n < 65536 → n ≡ few n
-unfolding few
-few_small n h = sym (taken _ _ (lt-ltb _ _ h))
-
-pub few_large : (n : ℕ) → 65536 ≤ n → 65536 ≡ few n
-unfolding few
-few_large n h = sym (left _ _ (le-ltb _ _ h))
-
-pub ruleset counts = (flag_yes, flag_no, few_small, few_large, rules)
 
 pub numbers_are : (q : Request) (n : ℕ) {size back unit rule middle last monthend count : ℕ} {neg : Bool} → mag q.tenor.length < 2147483648
     → size ≡ nat_abs (to_z w32 (of_z w32 q.tenor.length)) → neg ≡ is_negative (to_z w32 (of_z w32 q.tenor.length)) → back ≡ yes neg → unit ≡ unit_number q.tenor.unit → rule ≡ rule_number q.rule
     → middle ≡ convention_number q.convention → last ≡ convention_number q.terminal → monthend ≡ yes q.monthend → count ≡ few n
-    → (q.effective.day ∷ q.termination.day ∷ size ∷ back ∷ unit ∷ rule ∷ middle ∷ last ∷ monthend ∷ q.first.day ∷ q.penultimate.day ∷ q.mask ∷ count ∷ []) ≡ numbers_of q n
+    → (q.effective ∷ q.termination ∷ size ∷ back ∷ unit ∷ rule ∷ middle ∷ last ∷ monthend ∷ q.first ∷ q.penultimate ∷ q.mask ∷ count ∷ []) ≡ numbers_of q n
 unfolding numbers_of
 numbers_are q n m s g b u r c t e k =
     let z : to_z w32 (of_z w32 q.tenor.length) ≡ q.tenor.length = same32 q.tenor.length (record { sfits = m }) in

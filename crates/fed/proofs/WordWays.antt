@@ -6,7 +6,7 @@ use mathlib.Core.Bool.{Bool, true, false}
 use mathlib.Core.List.{List, [], ◌∷◌, ◌++◌}
 use native.Mathlib.Omega.{arith}
 use borrow.Author.Rules.{rules}
-use borrow.Author.Tests.{lt-ltb, le-ltb, le-leb, lt-leb, eq-eqb, ne_eqb, ltb-true, ltb-false, leb-true, leb-false}
+use borrow.Author.Tests.{lt-ltb, le-ltb, le-leb, lt-leb, ltb-true, ltb-false, leb-true, leb-false}
 use lib.Dec.{leb, ltb}
 use lib.ListN.{length, get_or, drop, set, drop_of_length-le}
 use lib.Seq.{sets, sets-eq, drop-cons}
@@ -14,7 +14,7 @@ use Rattle.request.specs.Laws.Picks.{taken, left}
 use Rattle.feeding.specs.declared.State.{State}
 use Rattle.feeding.specs.Feed.{at}
 use Rattle.feeding.specs.Laws.Bodies.{sets_append}
-use Rattle.fed.specs.Words.{sum_of, less_of, head_of, with_places, with_state, Put, places_in, state_in, with_numbers, goes_on, runs_of}
+use Rattle.fed.specs.Words.{sum_of, less_of, head_of, with_places, with_state, Put, places_in, state_in, with_numbers}
 
 -- ---- sums and differences
 module _ (a b : ℕ) where
@@ -34,7 +34,20 @@ module _ (a b : ℕ) where
   unfolding less_of
   less_over h = sym (left _ _ (lt-leb _ _ h))
 
-pub ruleset sums = (sum_small, sum_over, less_within, less_over, rules)
+-- the library's sums and differences are these
+sum_by : (a b : ℕ) → a < 65536 → b < 65536 → (c : Bool) → ltb (a + b) 65536 ≡ c → (a + b) % 65536 ≡ sum_of a b
+sum_by a b h k true e = let n : (a + b) % 65536 ≡ a + b = omega (arith, ltb-true _ _ e) in n ∙ sum_small a b (ltb-true _ _ e)
+sum_by a b h k false e = let n : (a + b) % 65536 ≡ a + b - 65536 = omega (arith, h, k, ltb-false _ _ e) in n ∙ sum_over a b (ltb-false _ _ e)
+
+pub sum_wraps : (a b : ℕ) → a < 65536 → b < 65536 → (a + b) % 65536 ≡ sum_of a b
+sum_wraps a b h k = sum_by a b h k (ltb (a + b) 65536) refl
+
+less_by : (a b : ℕ) → a < 65536 → b < 65536 → (c : Bool) → leb b a ≡ c → (a + (65536 - b)) % 65536 ≡ less_of a b
+less_by a b h k true e = let n : (a + (65536 - b)) % 65536 ≡ a - b = omega (arith, h, leb-true _ _ e) in n ∙ less_within a b (leb-true _ _ e)
+less_by a b h k false e = let n : (a + (65536 - b)) % 65536 ≡ a + 65536 - b = omega (arith, k, leb-false _ _ e) in n ∙ less_over a b (leb-false _ _ e)
+
+pub less_wraps : (a b : ℕ) → a < 65536 → b < 65536 → (a + (65536 - b)) % 65536 ≡ less_of a b
+less_wraps a b h k = less_by a b h k (leb b a) refl
 
 -- each undoes the other
 back_by : (a b : ℕ) → a < 65536 → b < 65536 → (c : Bool) → ltb (a + b) 65536 ≡ c → less_of (sum_of a b) a ≡ b
@@ -141,61 +154,30 @@ typed s a b c d e f g h p = record { phase = a; tag = b; high = c; sound = d; fi
 pub ruleset putting = (state_held, typed, rules)
 
 -- ---- numbers
-pub record Numbering (x₀ numbers x : List ℕ) (i at : ℕ) : Type 0 where
-  pub place : at ≡ 20 + i + i
+pub record Numbering (x₀ numbers x : List ℕ) (i : ℕ) : Type 0 where
   pub within : i ≤ 13
-  pub rest : with_numbers x at (drop i numbers) ≡ with_numbers x₀ 20 numbers
+  pub rest : with_numbers x (20 + 2 * i) (drop i numbers) ≡ with_numbers x₀ 20 numbers
 
 module _ {x₀ numbers : List ℕ} where
-  pub numbers_start : Numbering x₀ numbers x₀ 0 20
-  numbers_start = record { place = refl; within = omega arith; rest = refl }
+  pub numbers_start : Numbering x₀ numbers x₀ 0
+  numbers_start = record { within = omega arith; rest = refl }
 
-  module _ {x : List ℕ} {i at : ℕ} (n : Numbering x₀ numbers x i at) where
-    pub numbers_room : i < 13 → at < 46
-    numbers_room h = omega (arith, n.place, h)
-
-    pub numbers_next : i < 13 → at + 1 < 46
-    numbers_next h = omega (arith, n.place, h)
-
-    pub numbers_turn : {lo up : ℕ} → i < 13 → length numbers ≡ 13 → lo ≡ get_or numbers i 0 % 65536 → up ≡ get_or numbers i 0 / 65536 → Numbering x₀ numbers (set (set x at lo) (at + 1) up) (i + 1) (at + 2)
+  module _ {x : List ℕ} {i : ℕ} (n : Numbering x₀ numbers x i) where
+    pub numbers_turn : {lo up : ℕ} → i < 13 → length numbers ≡ 13 → lo ≡ get_or numbers i 0 % 65536 → up ≡ get_or numbers i 0 / 65536 → Numbering x₀ numbers (set (set x (20 + 2 * i) lo) (21 + 2 * i) up) (i + 1)
     unfolding with_numbers
     numbers_turn {lo} {up} h long a b =
-        let one : suc i ≡ i + 1 = omega arith in
+        let one : i + 1 ≡ suc i = omega arith in
+        let second : 21 + 2 * i ≡ 20 + 2 * i + 1 = omega arith in
+        let next : 20 + 2 * (i + 1) ≡ 20 + 2 * i + 2 = omega arith in
         record {
-          place = omega (arith, n.place);
           within = omega (arith, h);
           rest =
-              ap (λ (k : ℕ). with_numbers (set (set x at lo) (at + 1) up) (at + 2) (drop k numbers)) (sym one)
-              ∙ (λ j. with_numbers (set (set x at (a j)) (at + 1) (b j)) (at + 2) (drop (suc i) numbers))
-              ∙ ap (with_numbers x at) (sym (drop-cons numbers i 0 (omega (arith, h, long)))) ∙ n.rest;
+              (λ j. with_numbers (set (set x (20 + 2 * i) (a j)) (second j) (b j)) (next j) (drop (one j) numbers))
+              ∙ ap (with_numbers x (20 + 2 * i)) (sym (drop-cons numbers i 0 (omega (arith, h, long)))) ∙ n.rest;
         }
 
     pub numbers_over : 13 ≤ i → length numbers ≡ 13 → x ≡ with_numbers x₀ 20 numbers
     unfolding with_numbers
-    numbers_over h long = sym (ap (with_numbers x at) (drop_of_length-le numbers {i = i} (omega (arith, h, long)))) ∙ n.rest
+    numbers_over h long = sym (ap (with_numbers x (20 + 2 * i)) (drop_of_length-le numbers {i = i} (omega (arith, h, long)))) ∙ n.rest
 
-pub ruleset numberings = (numbers_start, numbers_room, numbers_next, numbers_turn, numbers_over, rules)
-
--- ---- a run
-pub goes_on_yes : (kept stop others : ℕ) → kept + 1 < stop → ltb (kept + others) 20000 ≡ goes_on kept stop others
-unfolding goes_on
-goes_on_yes kept stop others h = sym (taken _ _ (lt-ltb _ _ h))
-
-pub goes_on_no : (kept stop others : ℕ) → stop ≤ kept + 1 → false ≡ goes_on kept stop others
-unfolding goes_on
-goes_on_no kept stop others h = sym (left _ _ (le-ltb _ _ h))
-
-module _ (x : List ℕ) (n : ℕ) where
-  pub runs_by : {r : Bool} → n ≡ 1 → get_or x 3 0 ≡ 4 → r ≡ goes_on (get_or x 0 0) (get_or x 1 0) (get_or x 2 0) → r ≡ runs_of x n
-  unfolding runs_of
-  runs_by e p is = is ∙ sym (taken _ _ (eq-eqb _ _ e) ∙ taken _ _ (eq-eqb _ _ p))
-
-  pub runs_elsewhere : n ≡ 1 → (get_or x 3 0 ≡ 4 → ⊥) → false ≡ runs_of x n
-  unfolding runs_of
-  runs_elsewhere e p = sym (taken _ _ (eq-eqb _ _ e) ∙ left _ _ (ne_eqb _ _ p))
-
-  pub runs_not_one : (n ≡ 1 → ⊥) → false ≡ runs_of x n
-  unfolding runs_of
-  runs_not_one e = sym (left _ _ (ne_eqb _ _ e))
-
-pub ruleset running = (goes_on_yes, goes_on_no, runs_by, runs_elsewhere, runs_not_one, rules)
+pub ruleset numberings = (numbers_start, numbers_turn, numbers_over, rules)

@@ -6,106 +6,87 @@ ghost use Rattle.crossing.specs.Answers.{yes};
 ghost use Rattle.fed.specs.Handed.{few, numbers_of, decoded_number, number_of, decoded_words, said_words, Renewed, Stepped, Fed, Ended};
 
 use crossing::answers;
-use feeding::Said;
 use period::sign;
+use refusal::Refusal;
 use request::Decoded;
-use steps::{Request, moves, rules};
+use steps::{moves, rules};
 
 // The reader's words.
 mod words;
 
+#[tactic(auto, unfolding(crossing::specs::Answers::yes))]
 fn flag(b: bool) -> u32
     ensures { result ≡ yes b }
 {
-    if b {
-        return 1;
-    }
-    0
+    b as u32
 }
 
 // A count; no request has more than 4,096 closed dates.
+#[tactic(auto, unfolding(crate::specs::Handed::few, request::specs::Format::pick))]
 fn counted(n: usize) -> u32
     ensures { result ≡ few n }
 {
-    if n < 65536 {
-        return n as u32;
-    }
-    65536
+    n.min(65536) as u32
 }
 
-fn numbers_of(q: Request, n: usize) -> [u32; 13]
-    ensures { result ≡ numbers_of q n }
+fn numbers_of(decoded: &Decoded) -> [u32; 13]
+    ensures { result ≡ numbers_of decoded.now.request decoded.now.closed }
 {
-    let tenor = q.tenor;
-    let size = sign::size(tenor.length);
-    let back = flag(sign::is_negative(tenor.length));
-    let kind = tenor.unit;
-    let unit = crossing::unit_number(kind);
-    let asked = q.rule;
-    let rule = rules::rule_number(asked);
-    let middle = q.convention;
-    let convention = moves::convention_number(middle);
-    let last = q.terminal;
-    let terminal = moves::convention_number(last);
-    let monthend = flag(q.monthend);
-    let closed = counted(n);
+    let q = &decoded.request;
     [
         q.effective.day,
         q.termination.day,
-        size,
-        back,
-        unit,
-        rule as u32,
-        convention as u32,
-        terminal as u32,
-        monthend,
+        sign::size(q.tenor.length),
+        flag(sign::is_negative(q.tenor.length)),
+        crossing::unit_number(q.tenor.unit),
+        rules::rule_number(q.rule) as u32,
+        moves::convention_number(q.convention) as u32,
+        moves::convention_number(q.terminal) as u32,
+        flag(q.monthend),
         q.first.day,
         q.penultimate.day,
         q.mask as u32,
-        closed,
+        counted(decoded.closed),
     ]
 }
 
-fn decoded_number(d: Decoded) -> i64
-    ensures { result ≡ decoded_number d }
+// 1 where the request was found, or minus the number of the refusal.
+#[tactic(auto, unfolding(crate::specs::Handed::decoded_number))]
+fn decoded_number(answer: &Result<Decoded, Refusal>) -> i64
+    ensures { result ≡ decoded_number answer.now }
 {
-    match d {
-        Decoded::Asked {
-            request: _,
-            closed: _,
-        } => answers::value(1),
-        Decoded::Refused(n) => answers::minus(n),
+    match answer {
+        Ok(_) => 1,
+        Err(refusal) => answers::refused(*refusal),
     }
 }
 
-// 0 to go on, 1 where the request was found, or minus the number of the refusal.
-fn number_of(said: Said) -> i64
-    ensures { result ≡ number_of said }
+// The same, or 0 to go on.
+#[tactic(auto, unfolding(crate::specs::Handed::number_of))]
+fn number_of(said: &Option<Result<Decoded, Refusal>>) -> i64
+    ensures { result ≡ number_of said.now }
 {
     match said {
-        Said::More => answers::value(0),
-        Said::Is(d) => decoded_number(d),
+        None => 0,
+        Some(answer) => decoded_number(answer),
     }
 }
 
-fn put_decoded(d: Decoded, words: &mut [u16; 46])
-    ensures { words.new ≡ decoded_words d words.old }
+#[tactic(auto, unfolding(crate::specs::Handed::decoded_words))]
+fn put_decoded(answer: &Result<Decoded, Refusal>, words: &mut [u16; 46])
+    ensures { words.new ≡ decoded_words answer.now words.old }
 {
-    match d {
-        Decoded::Asked {
-            request: q,
-            closed: n,
-        } => words::put_numbers(numbers_of(q, n), words),
-        Decoded::Refused(_) => {}
+    if let Ok(decoded) = answer {
+        words::put_numbers(numbers_of(decoded), words);
     }
 }
 
-fn put_said(said: Said, words: &mut [u16; 46])
-    ensures { words.new ≡ said_words said words.old }
+#[tactic(auto, unfolding(crate::specs::Handed::said_words))]
+fn put_said(said: &Option<Result<Decoded, Refusal>>, words: &mut [u16; 46])
+    ensures { words.new ≡ said_words said.now words.old }
 {
-    match said {
-        Said::More => {}
-        Said::Is(d) => put_decoded(d, words),
+    if let Some(answer) = said {
+        put_decoded(answer, words);
     }
 }
 
@@ -114,8 +95,7 @@ pub fn reset(words: &mut [u16; 46]) -> i64
     ensures { Renewed words.old result words.new }
 {
     words::clear(words);
-    let state = feeding::reset();
-    words::put_state(state, words);
+    words::put_state(feeding::reset(), words);
     0
 }
 
@@ -125,16 +105,13 @@ fn feed_any(words: &mut [u16; 46], part: &[u8], buffer: &mut [u8], closed: &mut 
     ensures { Stepped words.old part.now buffer.old closed.old result words.new buffer.new closed.new }
 {
     if buffer.len() < 20000 {
-        return answers::minus(refusal::BUFFER);
+        return answers::refused(Refusal::Buffer);
     }
     let state = words::state_in(words);
-    let n = part.len();
-    let out = feeding::step(state, &part[0..n], buffer, closed);
-    let said = out.answer;
-    put_said(said, words);
-    let next = out.state;
-    words::put_state(next, words);
-    number_of(said)
+    let out = feeding::step(state, &part[0..part.len()], buffer, closed);
+    put_said(&out.answer, words);
+    words::put_state(out.state, words);
+    number_of(&out.answer)
 }
 
 // A part; one byte in the midst of a body is put to its place at once. `feed_any` has its own test of the buffer: called twice, it stays
@@ -156,13 +133,11 @@ pub fn finish(words: &mut [u16; 46], buffer: &[u8], closed: &mut [u32]) -> i64
     ensures { Ended words.old buffer.now closed.old result words.new closed.new }
 {
     if buffer.len() < 20000 {
-        return answers::minus(refusal::BUFFER);
+        return answers::refused(Refusal::Buffer);
     }
     let state = words::state_in(words);
     let out = feeding::close(state, buffer, closed);
-    let said = out.answer;
-    put_said(said, words);
-    let next = out.state;
-    words::put_state(next, words);
-    number_of(said)
+    put_decoded(&out.answer, words);
+    words::put_state(out.state, words);
+    decoded_number(&out.answer)
 }

@@ -8,23 +8,18 @@ ghost use Rattle.fed.specs.Words.{sum_of, less_of, places_in, state_in, head_of,
 
 use feeding::State;
 
+#[tactic(auto, using(crate::proofs::WordWays::sum_wraps))]
 fn sum(a: u16, b: u16) -> u16
     ensures { result ≡ sum_of a b }
 {
-    let n = a as u32 + b as u32;
-    if n < 65536 {
-        return n as u16;
-    }
-    (n - 65536) as u16
+    a.wrapping_add(b)
 }
 
+#[tactic(auto, using(crate::proofs::WordWays::less_wraps))]
 fn less(a: u16, b: u16) -> u16
     ensures { result ≡ less_of a b }
 {
-    if b <= a {
-        return a - b;
-    }
-    (a as u32 + 65536 - b as u32) as u16
+    a.wrapping_sub(b)
 }
 
 fn pair(low: u8, high: u8) -> u16
@@ -128,59 +123,44 @@ fn with_head(words: [u16; 46], s: State) -> [u16; 46]
 fn with_state(words: [u16; 46], s: State) -> [u16; 46]
     ensures { Put s words result }
 {
-    let places = s.places;
-    with_places(with_head(words, s), places)
+    with_places(with_head(words, s), s.places)
 }
 
 pub(crate) fn put_state(s: State, words: &mut [u16; 46])
     ensures { Put s words.old words.new }
 {
-    let before = *words;
-    let after = with_state(before, s);
-    *words = after;
+    *words = with_state(*words, s);
 }
 
 pub(crate) fn clear(words: &mut [u16; 46])
     ensures { words.new ≡ replicate 46 0 }
 {
-    let none = [0u16; 46];
-    *words = none;
+    *words = [0u16; 46];
 }
 
 pub(crate) fn put_numbers(numbers: [u32; 13], words: &mut [u16; 46])
     ensures { words.new ≡ with_numbers words.old 20 numbers }
 {
-    let mut i = 0;
-    let mut at = 20;
-    while i < 13 {
-        words[at] = low_word(numbers[i]);
-        words[at + 1] = upper_word(numbers[i]);
-        at += 2;
-        i += 1;
+    for i in 0..13 {
+        words[20 + 2 * i] = low_word(numbers[i]);
+        words[21 + 2 * i] = upper_word(numbers[i]);
     }
 }
 
 // Whether the byte behind those stored is one of a body before its last, and of the first 20,000.
+#[tactic(auto, unfolding(crate::specs::Words::goes_on, request::specs::Format::pick))]
 fn goes_on(kept: u16, stop: u16, others: u16) -> bool
     ensures { result ≡ goes_on kept stop others }
 {
-    if kept as usize + 1 < stop as usize {
-        return (kept as usize + others as usize) < 20000;
-    }
-    false
+    kept as usize + 1 < stop as usize && kept as usize + (others as usize) < 20000
 }
 
 // Whether a part of so many bytes is one byte of a body, behind its first and before its last, within the first 20,000.
+#[tactic(auto, unfolding(crate::specs::Words::runs_of, request::specs::Format::pick))]
 pub(crate) fn runs(words: &[u16; 46], n: usize) -> bool
     ensures { result ≡ runs_of words.now n }
 {
-    if n == 1 {
-        if words[3] == 4 {
-            return goes_on(words[0], words[1], words[2]);
-        }
-        return false;
-    }
-    false
+    n == 1 && words[3] == 4 && goes_on(words[0], words[1], words[2])
 }
 
 // Puts such a byte to its place.

@@ -12,24 +12,25 @@ use Rattle.request.specs.Stored.{stored_in}
 use Rattle.request.specs.Decode.{Decodes}
 use Rattle.request.specs.Laws.Promise.{refuses, same_promise}
 use Rattle.request.specs.declared.Decoded.{Decoded}
-use Rattle.request.specs.declared.Decoded.TheVariants as decoded-is
+use Rattle.std.specs.Prelude.{Result, None, Some, Err}
+use Rattle.refusal.specs.declared.Refusal.{Refusal}
+use Rattle.refusal.specs.declared.Refusal.TheVariants as refusal-is
 use Rattle.feeding.specs.declared.State.{State}
-use Rattle.feeding.specs.declared.Said.TheVariants as said-is
 use Rattle.feeding.specs.Feed.{is_whole, found, Feeds, Finishes, done}
 use Rattle.feeding.specs.Inner.Runs.{Taken}
 
 -- ---- what the stored bodies ask for
 module _ (s : State) (buffer l : List ℕ) where
-  pub answer_broken : s.sound ≡ 0 → Decodes (found s buffer (length l)) (decoded-is.Refused 17) l l
+  pub answer_broken : s.sound ≡ 0 → Decodes (found s buffer (length l)) (Err refusal-is.Request) l l
   unfolding found is_whole
-  answer_broken e = refuses 17 (fails 17 _ _ (taken _ _ (eq-eqb _ _ e)))
+  answer_broken e = refuses refusal-is.Request (fails 17 _ _ (taken _ _ (eq-eqb _ _ e)))
 
   module _ (h : s.sound ≡ 0 → ⊥) where
-    pub answer_open : (s.phase ≡ 5 → ⊥) → Decodes (found s buffer (length l)) (decoded-is.Refused 17) l l
+    pub answer_open : (s.phase ≡ 5 → ⊥) → Decodes (found s buffer (length l)) (Err refusal-is.Request) l l
     unfolding found is_whole
-    answer_open e = refuses 17 (fails 17 _ _ (left _ _ (ne_eqb _ _ h) ∙ ne_eqb _ _ e))
+    answer_open e = refuses refusal-is.Request (fails 17 _ _ (left _ _ (ne_eqb _ _ h) ∙ ne_eqb _ _ e))
 
-    pub answer_whole : {r : Decoded} {l' : List ℕ} → s.phase ≡ 5 → 20000 ≤ length buffer → Decodes (stored_in buffer s.places (s.size / 4) (length l)) r l l' → Decodes (found s buffer (length l)) r l l'
+    pub answer_whole : {r : Result Decoded Refusal} {l' : List ℕ} → s.phase ≡ 5 → 20000 ≤ length buffer → Decodes (stored_in buffer s.places (s.size / 4) (length l)) r l l' → Decodes (found s buffer (length l)) r l l'
     unfolding found is_whole stored_in
     answer_whole e long d =
         same_promise (sym (holds 18 _ _ _ (le-leb 20000 (length buffer) long) refl) ∙ holds 17 _ _ _ (left _ _ (ne_eqb _ _ h) ∙ eq-eqb _ _ e) refl) d
@@ -38,11 +39,11 @@ pub ruleset answering = (answer_broken, answer_open, answer_whole, rules)
 
 -- ---- a feed
 module _ {s : State} {part buffer closed : List ℕ} where
-  pub feed_short : length buffer < 20000 → Feeds s part buffer closed (said-is.Is (decoded-is.Refused 18)) s buffer closed
+  pub feed_short : length buffer < 20000 → Feeds s part buffer closed (Some (Err refusal-is.Buffer)) s buffer closed
   feed_short h = record { state = sym (taken _ _ (lt-ltb _ _ h)); answer = sym (taken _ _ (lt-ltb _ _ h)); bytes = sym (taken _ _ (lt-ltb _ _ h)); dates = sym (taken _ _ (lt-ltb _ _ h)) }
 
   module _ (g : 20000 ≤ length buffer) where
-    pub feed_takes : {s' : State} {buffer' : List ℕ} → s.finished ≡ 0 → Taken s part buffer s' buffer' → Feeds s part buffer closed said-is.More s' buffer' closed
+    pub feed_takes : {s' : State} {buffer' : List ℕ} → s.finished ≡ 0 → Taken s part buffer s' buffer' → Feeds s part buffer closed None s' buffer' closed
     feed_takes e t =
         record {
           state = t.state ∙ sym (left _ _ (le-ltb _ _ g) ∙ taken _ _ (eq-eqb _ _ e));
@@ -51,24 +52,24 @@ module _ {s : State} {part buffer closed : List ℕ} where
           dates = sym (left _ _ (le-ltb _ _ g) ∙ taken _ _ (eq-eqb _ _ e));
         }
 
-    pub feed_repeats : {r : Decoded} {closed' : List ℕ} → (s.finished ≡ 0 → ⊥) → Decodes (found s buffer (length closed)) r closed closed' → Feeds s part buffer closed (said-is.Is r) s buffer closed'
+    pub feed_repeats : {r : Result Decoded Refusal} {closed' : List ℕ} → (s.finished ≡ 0 → ⊥) → Decodes (found s buffer (length closed)) r closed closed' → Feeds s part buffer closed (Some r) s buffer closed'
     feed_repeats e d =
         record {
           state = sym (left _ _ (le-ltb _ _ g) ∙ left _ _ (ne_eqb _ _ e));
-          answer = ap said-is.Is d.answer ∙ sym (left _ _ (le-ltb _ _ g) ∙ left _ _ (ne_eqb _ _ e));
+          answer = ap Some d.answer ∙ sym (left _ _ (le-ltb _ _ g) ∙ left _ _ (ne_eqb _ _ e));
           bytes = sym (left _ _ (le-ltb _ _ g) ∙ left _ _ (ne_eqb _ _ e));
-          dates = d.list_after_lem ∙ sym (left _ _ (le-ltb _ _ g) ∙ left _ _ (ne_eqb _ _ e));
+          dates = d.dates ∙ sym (left _ _ (le-ltb _ _ g) ∙ left _ _ (ne_eqb _ _ e));
         }
 
 pub ruleset feeds = (feed_short, feed_takes, feed_repeats, rules)
 
 -- ---- the finish
 module _ {s : State} {buffer closed : List ℕ} where
-  pub finish_short : length buffer < 20000 → Finishes s buffer closed (said-is.Is (decoded-is.Refused 18)) s closed
+  pub finish_short : length buffer < 20000 → Finishes s buffer closed (Err refusal-is.Buffer) s closed
   finish_short h = record { state = sym (taken _ _ (lt-ltb _ _ h)); answer = sym (taken _ _ (lt-ltb _ _ h)); dates = sym (taken _ _ (lt-ltb _ _ h)) }
 
-  pub finish_said : {r : Decoded} {closed' : List ℕ} → 20000 ≤ length buffer → Decodes (found s buffer (length closed)) r closed closed' → Finishes s buffer closed (said-is.Is r) (done s) closed'
+  pub finish_said : {r : Result Decoded Refusal} {closed' : List ℕ} → 20000 ≤ length buffer → Decodes (found s buffer (length closed)) r closed closed' → Finishes s buffer closed r (done s) closed'
   finish_said g d =
-      record { state = sym (left _ _ (le-ltb _ _ g)); answer = ap said-is.Is d.answer ∙ sym (left _ _ (le-ltb _ _ g)); dates = d.list_after_lem ∙ sym (left _ _ (le-ltb _ _ g)) }
+      record { state = sym (left _ _ (le-ltb _ _ g)); answer = d.answer ∙ sym (left _ _ (le-ltb _ _ g)); dates = d.dates ∙ sym (left _ _ (le-ltb _ _ g)) }
 
 pub ruleset finishes = (finish_short, finish_said, rules)

@@ -12,42 +12,10 @@ use lib.ListN.{length, get_or, take, drop, set, length-set, drop_of_length-le, t
 use lib.Seq.{drop-cons, paste, paste-zero, paste-suc, take-length, drop-drop, length-take-le}
 use Rattle.request.specs.Laws.Picks.{taken, left}
 use Rattle.feeding.specs.declared.State.{State}
-use Rattle.feeding.specs.Feed.{at, keeps_of, eat_of, keep_of, eaten, laid, settled}
-use Rattle.feeding.specs.Inner.Runs.{Run, Most, Running, ran, copied, Taken}
+use Rattle.feeding.specs.Feed.{keeps_of, eat_of, keep_of, eaten, laid}
+use Rattle.feeding.specs.Inner.Runs.{Run, Running, ran, copied, Taken}
 use Rattle.feeding.specs.Laws.Cut.{eaten_cut, laid_cut}
 use Rattle.feeding.specs.Laws.Run.{run_eaten, run_laid}
-
--- ---- how long a run is
-module _ (due kept fed : ℕ) where
-  pub most_some : {a r : ℕ} → kept < 20000 → fed < 20000 → (a ≤ 20000 - kept) × (a ≤ 20000 - fed) → (r ≤ due) × (r ≤ a) → Most due kept fed r
-  most_some k f p q = record { due = q.0; kept = λ some. omega (arith, k, p.0, q.1); fed = λ some. omega (arith, f, p.1, q.1) }
-
-  pub most_none : Most due kept fed 0
-  most_none = record { due = omega arith; kept = λ some. absurd (some refl); fed = λ some. absurd (some refl) }
-
-pub ruleset mosts = (most_some, most_none, rules)
-
-pub no_run : (s : State) {left : ℕ} → Running s left 0
-no_run s = record { within = omega arith; runs = λ some. absurd (some refl) }
-
-module _ (s : State) {most : ℕ} (body : s.phase ≡ 4) (m : Most s.due s.kept s.fed most) where
-  within_run : (n : ℕ) → n ≤ most → (n ≡ 0 → ⊥) → Run s n
-  within_run n h some =
-      let k : s.kept + most ≤ 20000 = m.kept (λ e. some (omega (arith, e, h))) in
-      let f : s.fed + most ≤ 20000 = m.fed (λ e. some (omega (arith, e, h))) in
-      record { body = body; due = omega (arith, h, m.due); kept = omega (arith, k, h); fed = omega (arith, f, h) }
-
-  pub run_left : {left : ℕ} → left < most → Running s left left
-  run_left {left} h = record { within = omega arith; runs = within_run left (omega arith) }
-
-  pub run_most : {left : ℕ} → most ≤ left → Running s left most
-  run_most h = record { within = h; runs = within_run most (omega arith) }
-
-pub run_over : (s : State) (n : ℕ) {r : State} → r ≡ settled (at s.phase s.tag s.high s.sound s.finished (s.due - n) (s.kept + n) (s.fed + n) s.size s.places) → r ≡ ran s n
-unfolding ran
-run_over s n e = e
-
-pub ruleset runs = (no_run, run_left, run_most, run_over, rules)
 
 -- ---- a copy
 pub record Copying (part buffer₀ : List ℕ) (at : ℕ) (buffer : List ℕ) (j : ℕ) : Type 0 where

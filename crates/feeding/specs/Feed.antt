@@ -1,15 +1,14 @@
 -- Document 02, L1: a reader that is fed one part at a time. A part is its bytes, one after another, so that the cuts do not matter.
 -- Assumes nothing.
-use Rattle.std.specs.Prelude.{ℕ, ◌+◌, ◌*◌, ◌-◌, ◌/◌, ◌%◌, ◌≡◌, Bool, true, false, ◌&&◌, List, [], ◌∷◌, eqb, leb, ltb, length, get_or, set, replicate}
-use Rattle.refusal.specs.Answer.{Answer, need, REQUEST, BUFFER}
+use Rattle.std.specs.Prelude.{ℕ, ◌+◌, ◌*◌, ◌-◌, ◌/◌, ◌%◌, ◌≡◌, Bool, true, false, ◌&&◌, List, [], ◌∷◌, eqb, leb, ltb, length, get_or, set, replicate, Option, None, Some, Result}
+use Rattle.refusal.specs.declared.Refusal.{Refusal}
+use Rattle.refusal.specs.Answer.{Answer, refused, answered, need, REQUEST, BUFFER}
 use Rattle.request.specs.Tags.{CLOSED, END}
 use Rattle.request.specs.Format.{pick, is_letter, Asked, asked_from}
-use Rattle.request.specs.Decode.{answered, closed_dates_after}
+use Rattle.request.specs.Decode.{counted, closed_dates_after}
 use Rattle.request.specs.Stored.{widths, stored}
-use Rattle.request.specs.declared.Decoded.TheVariants as decoded-is
+use Rattle.request.specs.declared.Decoded.{Decoded}
 use Rattle.feeding.specs.declared.State.{State}
-use Rattle.feeding.specs.declared.Said.{Said}
-use Rattle.feeding.specs.declared.Said.TheVariants as said-is
 
 -- ---- the reader, and what comes next: 0 a tag, 1 the high byte of a length, 2 its low byte, 3 the first byte of a body, 4 a further
 -- one; 5: FF has ended
@@ -114,15 +113,20 @@ found s buffer room = need REQUEST (is_whole s) (asked_from room (stored buffer 
 abbrev pub short : List ℕ → Bool
 short buffer = ltb (length buffer) 20000
 
-abbrev pub refused_buffer : Said
-refused_buffer = said-is.Is (decoded-is.Refused BUFFER)
+-- what the code's answer says: nothing yet, or document 01's answer
+abbrev pub heard : Option (Result Decoded Refusal) → Option (Answer Decoded)
+heard None = None
+heard (Some r) = Some (answered r)
 
-abbrev pub said_of : State → List ℕ → List ℕ → Said
-said_of s buffer closed = said-is.Is (answered (found s buffer (length closed)))
+abbrev pub refused_buffer : Answer Decoded
+refused_buffer = refused BUFFER
 
-pub record Feeds (s : State) (part buffer closed : List ℕ) (r : Said) (s' : State) (buffer' closed' : List ℕ) : Type 0 where
+abbrev pub said_of : State → List ℕ → List ℕ → Answer Decoded
+said_of s buffer closed = counted (found s buffer (length closed))
+
+pub record Feeds (s : State) (part buffer closed : List ℕ) (r : Option (Result Decoded Refusal)) (s' : State) (buffer' closed' : List ℕ) : Type 0 where
   pub state : s' ≡ pick (short buffer) s (pick (eqb s.finished 0) (eaten s part) s)
-  pub answer : r ≡ pick (short buffer) refused_buffer (pick (eqb s.finished 0) said-is.More (said_of s buffer closed))
+  pub answer : heard r ≡ pick (short buffer) (Some refused_buffer) (pick (eqb s.finished 0) None (Some (said_of s buffer closed)))
   pub bytes : buffer' ≡ pick (short buffer) buffer (pick (eqb s.finished 0) (laid s part buffer) buffer)
   pub dates : closed' ≡ pick (short buffer) closed (pick (eqb s.finished 0) closed (closed_dates_after (found s buffer (length closed)) closed))
 
@@ -130,7 +134,7 @@ pub record Feeds (s : State) (part buffer closed : List ℕ) (r : Said) (s' : St
 abbrev pub done : State → State
 done s = at s.phase s.tag s.high s.sound 1 s.due s.kept s.fed s.size s.places
 
-pub record Finishes (s : State) (buffer closed : List ℕ) (r : Said) (s' : State) (closed' : List ℕ) : Type 0 where
+pub record Finishes (s : State) (buffer closed : List ℕ) (r : Result Decoded Refusal) (s' : State) (closed' : List ℕ) : Type 0 where
   pub state : s' ≡ pick (short buffer) s (done s)
-  pub answer : r ≡ pick (short buffer) refused_buffer (said_of s buffer closed)
+  pub answer : answered r ≡ pick (short buffer) refused_buffer (said_of s buffer closed)
   pub dates : closed' ≡ pick (short buffer) closed (closed_dates_after (found s buffer (length closed)) closed)

@@ -1,8 +1,9 @@
 -- Document 02, L1: parts fed in turn, and all that was fed.
 -- Assumes nothing.
-use Rattle.std.specs.Prelude.{ℕ, List, [], ◌∷◌, ◌++◌}
+use Rattle.std.specs.Prelude.{ℕ, List, [], ◌∷◌, ◌++◌, Option, Result}
 use Rattle.feeding.specs.declared.State.{State}
-use Rattle.feeding.specs.declared.Said.{Said}
+use Rattle.refusal.specs.declared.Refusal.{Refusal}
+use Rattle.request.specs.declared.Decoded.{Decoded}
 use Rattle.feeding.specs.Feed.{fresh, Feeds}
 
 -- feeds in turn from a reset, each as it promises, with any list lent for closed dates: the parts, the latest first, what each feed
@@ -10,7 +11,7 @@ use Rattle.feeding.specs.Feed.{fresh, Feeds}
 pub record Turn : Type 0 where
   pub part : List ℕ
   pub closed : List ℕ
-  pub answer : Said
+  pub answer : Option (Result Decoded Refusal)
   pub closed_after : List ℕ
 
 pub data Turns (b : List ℕ) : List Turn → State → List ℕ → Type 0 where

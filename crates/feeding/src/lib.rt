@@ -4,6 +4,7 @@
 ghost use Rattle.std.specs.Prelude.{◌≡◌};
 ghost use Rattle.feeding.specs.Feed.{fresh, Feeds, Finishes};
 
+use refusal::Refusal;
 use request::Decoded;
 
 // The bytes of a part, one after another or in runs.
@@ -13,7 +14,7 @@ mod answering;
 
 // What stands between two bytes: what comes next, the tag of the field, its length's high byte, whether all was sound so far
 // (1), whether the request was declared finished (1), the bytes of the body still due, how many bytes are stored and how many
-// were fed, the length of field 0B, and where the body of each tag starts.
+// were fed, the length of field 0B, and where the body of each tag starts. Numbers and no enums: C holds a reader as these words.
 #[repr(C)]
 #[derive(Clone, Copy)]
 pub struct State {
@@ -29,17 +30,11 @@ pub struct State {
     pub places: [u16; 12],
 }
 
-// Go on; or what is said of the request that was declared finished, and of a buffer that is too short.
+// The reader behind a call, and what the call answers.
 #[derive(Clone, Copy)]
-pub enum Said {
-    More,
-    Is(Decoded),
-}
-
-#[derive(Clone, Copy)]
-pub struct Outcome {
+pub struct Outcome<A> {
     pub state: State,
-    pub answer: Said,
+    pub answer: A,
 }
 
 // The state of a new reader, and of one that was reset.
@@ -61,51 +56,59 @@ pub fn reset() -> State
 }
 
 // One part, by value.
-pub fn step(state: State, part: &[u8], buffer: &mut [u8], closed: &mut [u32]) -> Outcome
+pub fn step(
+    state: State,
+    part: &[u8],
+    buffer: &mut [u8],
+    closed: &mut [u32],
+) -> Outcome<Option<Result<Decoded, Refusal>>>
     ensures { Feeds state part.now buffer.old closed.old result.answer result.state buffer.new closed.new }
 {
     if buffer.len() < 20000 {
         return Outcome {
             state,
-            answer: Said::Is(Decoded::Refused(refusal::BUFFER)),
+            answer: Some(Err(Refusal::Buffer)),
         };
     }
     if state.finished == 0 {
-        let next = reading::take_in(state, part, buffer);
         return Outcome {
-            state: next,
-            answer: Said::More,
+            state: reading::take_in(state, part, buffer),
+            answer: None,
         };
     }
-    let said = answering::answer(state, buffer, closed);
     Outcome {
         state,
-        answer: Said::Is(said),
+        answer: Some(answering::answer(state, buffer, closed)),
     }
 }
 
 // The finish, by value.
-pub fn close(state: State, buffer: &[u8], closed: &mut [u32]) -> Outcome
+pub fn close(state: State, buffer: &[u8], closed: &mut [u32]) -> Outcome<Result<Decoded, Refusal>>
     ensures { Finishes state buffer.now closed.old result.answer result.state closed.new }
 {
     if buffer.len() < 20000 {
         return Outcome {
             state,
-            answer: Said::Is(Decoded::Refused(refusal::BUFFER)),
+            answer: Err(Refusal::Buffer),
         };
     }
-    let said = answering::answer(state, buffer, closed);
-    let mut done = state;
-    done.finished = 1;
     Outcome {
-        state: done,
-        answer: Said::Is(said),
+        state: State {
+            finished: 1,
+            ..state
+        },
+        answer: answering::answer(state, buffer, closed),
     }
 }
 
-// Takes in a part of the bytes: each byte of a body goes to its place in the buffer. Once the request was declared finished, the
-// part is not read and the finish's answer is repeated.
-pub fn feed(state: &mut State, part: &[u8], buffer: &mut [u8], closed: &mut [u32]) -> Said
+// Takes in a part of the bytes: each byte of a body goes to its place in the buffer. It answers nothing as long as bytes may
+// follow. Once the request was declared finished, the part is not read and the finish's answer is repeated.
+pub fn feed(
+    state: &mut State,
+    part: &[u8],
+    buffer: &mut [u8],
+    closed: &mut [u32],
+) -> Option<Result<Decoded, Refusal>>
     ensures { Feeds state.old part.now buffer.old closed.old result state.new buffer.new closed.new }
 {
     let out = step(*state, part, buffer, closed);
@@ -115,7 +118,7 @@ pub fn feed(state: &mut State, part: &[u8], buffer: &mut [u8], closed: &mut [u32
 
 // Declares the request finished, and answers what `request::decode` answers for all that was fed since the last reset, with the
 // closed dates written over the start of the lent list.
-pub fn finish(state: &mut State, buffer: &[u8], closed: &mut [u32]) -> Said
+pub fn finish(state: &mut State, buffer: &[u8], closed: &mut [u32]) -> Result<Decoded, Refusal>
     ensures { Finishes state.old buffer.now closed.old result state.new closed.new }
 {
     let out = close(*state, buffer, closed);

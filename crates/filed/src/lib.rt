@@ -3,24 +3,23 @@
 
 ghost use Rattle.filed.specs.Filed.{Filed, Published};
 
-use crossing::answers;
-use holidays::Imported;
-use publishing::Exported;
+use crossing::answers::{self, one_number};
+use refusal::Refusal;
 
 pub fn import(file: &[u8], list: &mut [u32], line: &mut [u32]) -> i64
     ensures { Filed file.now list.old line.old result list.new line.new }
 {
     if line.len() == 0 {
-        return answers::minus(refusal::ROOM);
+        return answers::refused(Refusal::Room);
     }
     match holidays::import(file, list) {
-        Imported::Days(n) => {
+        Ok(n) => {
             line[0] = 0;
-            answers::value(n)
+            i64::from(n)
         }
-        Imported::Refused(n, at) => {
-            line[0] = at;
-            answers::minus(n)
+        Err(fault) => {
+            line[0] = fault.line;
+            answers::refused(fault.refusal)
         }
     }
 }
@@ -28,8 +27,5 @@ pub fn import(file: &[u8], list: &mut [u32], line: &mut [u32]) -> i64
 pub fn export(list: &[u32], file: &mut [u8]) -> i64
     ensures { Published list.now file.old result file.new }
 {
-    match publishing::export(list, file) {
-        Exported::Bytes(n) => answers::value(n),
-        Exported::Refused(n) => answers::minus(n),
-    }
+    one_number(publishing::export(list, file))
 }

@@ -10,7 +10,7 @@ use lib.ListN.{length, get_or, take, drop, set, length-set, length-append, lengt
 use lib.Seq.{length-take-le, drop-append-le, take_at, take-length, take-suc-set, drop-cons}
 use borrow.Author.Tests.{lt-leb, lt-ltb, le-ltb, leb-true, ne_eqb}
 use borrow.Author.Rules.{rules}
-use Rattle.refusal.specs.Answer.{Answer, given, refused, then}
+use Rattle.refusal.specs.Answer.{Answer, given, refused, answered, number, then}
 use Rattle.refusal.specs.Laws.Answers.{then_given, then_refused, both}
 use Rattle.period.specs.declared.Period.{Period}
 use Rattle.steps.specs.declared.Rule.{Rule}
@@ -18,21 +18,21 @@ use Rattle.steps.specs.declared.Request.{Request}
 use Rattle.steps.specs.declared.Built.{Built}
 use Rattle.steps.specs.Rules.{rule_in_force, tenor_in_force}
 use Rattle.steps.specs.Finish.{Merged, meet_at_end, merge_end, merge_front, merge_front_if, meet_at_front}
-use Rattle.steps.specs.Build.{refused_built, answered, dates_after, flags_after}
+use Rattle.steps.specs.Build.{refused_built, dates_after, flags_after}
+use Rattle.steps.specs.Build.{answered as answered_built}
 use Rattle.steps.specs.Entries.{Entries, pairs_of, merged_entries, without_former, without_second, left_beside, farthest, paid_of, moved_of, unadjusted_after, Written}
 use Rattle.steps.specs.Laws.Entries.{former_is, former_length}
 use Rattle.steps.specs.Laws.Entries as entries
-use Rattle.finish.specs.declared.merges.Start.{Start}
-use Rattle.finish.specs.declared.merges.Start.TheVariants as start_is
-use Rattle.finish.specs.declared.merges.Left.{Left}
-use Rattle.finish.specs.declared.merges.Left.TheVariants as left_is
-use Rattle.finish.specs.declared.moving.Done.{Done}
-use Rattle.finish.specs.declared.moving.Done.TheVariants.{Whole, Refused}
-use Rattle.finish.specs.Moving.{paired}
+use Rattle.std.specs.Prelude.{Result, Ok, Err, IsErr, IsErrAnd}
+use Rattle.std.proofs.lemmas.Bool.{false≢true}
+use Rattle.refusal.specs.declared.Refusal.{Refusal}
+use Rattle.refusal.specs.Refusals.{number_of}
+use Rattle.finish.specs.declared.merges.Part.{Part}
+use Rattle.finish.specs.Moving.{Done, done, pairs}
 use Rattle.finish.specs.Ends.{EndMerged, left_from, Short, FrontMerged, part_of, left_of, Within, UpTo, Merges, CopiedOut}
 use Rattle.finish.specs.Following.{set_if, follow_end, follow_front}
-use Rattle.finish.specs.Laws.Lending.{written_refused, written_as, completed_on}
-use Rattle.finish.specs.Finishing.{accepted_built, pair, lent_refusal, completed}
+use Rattle.finish.specs.Laws.Lending.{written_refused, written_as, completed_on, lent_stop, never_0}
+use Rattle.finish.specs.Finishing.{accepted_built, built_or_refused, pair, lent_refusal, completed}
 
 -- ---- writing out
 pub accepted_is : (q : Request) (count tries moved : ℕ) (rule : Rule) (tenor : Period) → rule ≡ rule_in_force q → tenor ≡ tenor_in_force q → record { number = 0; count = count; tries = tries; rule = rule; tenor = tenor; moved = moved } ≡ accepted_built q count tries moved
@@ -44,15 +44,15 @@ apart_alone : (ds : List ℕ) → length ds < 2 → meet_at_front ds ≡ false
 unfolding meet_at_front
 apart_alone ds h = rw (lt-leb 2 (length ds) h)
 
-alone_stays : (ds fs ds' fs' : List ℕ) (k : ℕ) → length ds < 2 → left_from (start_is.At k) ds' fs' ≡ merge_front (pair ds fs) → drop k ds' ≡ ds
+alone_stays : (ds fs ds' fs' : List ℕ) (k : ℕ) → length ds < 2 → left_from (Ok k) ds' fs' ≡ merge_front (pair ds fs) → drop k ds' ≡ ds
 unfolding left_from merge_front merge_front_if
 alone_stays ds fs ds' fs' k h e =
     let a : given (pair (drop k ds') (drop k fs')) ≡ given (pair ds fs) = rw (apart_alone ds h) at e in
     let b : pair (drop k ds') (drop k fs') ≡ pair ds fs = cc in
     ap (λ (m : Merged). m.dates) b
 
-in_front_lem : (p t : List ℕ) (n k : ℕ) → length p ≡ n → k ≤ n → take (n - k) (drop k (p ++ t)) ≡ drop k p
-in_front_lem p t n k l h =
+front_kept : (p t : List ℕ) (n k : ℕ) → length p ≡ n → k ≤ n → take (n - k) (drop k (p ++ t)) ≡ drop k p
+front_kept p t n k l h =
     rw (drop-append-le k p t (omega arith))
     (take_at (drop k p) t (n - k) (length-drop k p ∙ omega arith))
 
@@ -66,17 +66,21 @@ module _ {ds fs : List ℕ} (even : length ds ≡ length fs + 1) (to : ℕ) (ds�
   pub merge_even : length (take to ds₁) ≡ length (take (to - 1) fs₁) + 1
   merge_even = let a = merge_size in let b = merge_size_flags in let s = f.some in omega arith
 
-  module _ (r : Start) (p s : List ℕ) (m : FrontMerged (take to ds₁) (take (to - 1) fs₁) r p s) where
+  module _ (r : Result ℕ Refusal) (p s : List ℕ) (m : FrontMerged (take to ds₁) (take (to - 1) fs₁) r p s) where
     ended : pair (take to ds₁) (take (to - 1) fs₁) ≡ merge_end ds fs
     ended = rw (f.dates, f.flags)
 
-    pub merge_refused : (n : ℕ) (ds₂ fs₂ : List ℕ) → r ≡ start_is.Refused n → Merges ds fs (left_is.Refused n) ds₂ fs₂
+    merge_stops : (n : Refusal) (ds₂ fs₂ : List ℕ) → r ≡ Err n → Merges ds fs (Err n) ds₂ fs₂
     unfolding left_from left_of Within UpTo
-    merge_refused n ds₂ fs₂ e =
-        let a : refused n ≡ merge_front (pair (take to ds₁) (take (to - 1) fs₁)) = rw e at m.says in
+    merge_stops n ds₂ fs₂ e =
+        let a : refused (number_of n) ≡ merge_front (pair (take to ds₁) (take (to - 1) fs₁)) = rw e at m.says in
         record { says = a ∙ ap merge_front ended; within = tt; up_to = tt }
 
-    module _ (u : length p ≡ length (take to ds₁)) (v : length s ≡ length (take (to - 1) fs₁)) (from : ℕ) (e : r ≡ start_is.At from) where
+    pub merge_refused : (n : Refusal) (left : Result Part Refusal) (ds₂ fs₂ : List ℕ) → r ≡ Err n → IsErr left × IsErrAnd left (λ k. k ≡ n) → Merges ds fs left ds₂ fs₂
+    merge_refused n (Ok p) ds₂ fs₂ e h = absurd (false≢true h.0)
+    merge_refused n (Err k) ds₂ fs₂ e h = rw h.1 (merge_stops n ds₂ fs₂ e)
+
+    module _ (u : length p ≡ length (take to ds₁)) (v : length s ≡ length (take (to - 1) fs₁)) (from : ℕ) (e : r ≡ Ok from) where
       short : from ≤ 1
       unfolding Short
       short = let a : Short r (length (take to ds₁)) = m.short in rw e at a
@@ -93,14 +97,14 @@ module _ {ds fs : List ℕ} (even : length ds ≡ length fs + 1) (to : ℕ) (ds�
       before (suc zero) h s = let a = alone (sym h) in omega arith
       before (suc (suc n)) h s = omega (arith, short)
 
-      pub merge_part : Merges ds fs (left_is.Part from to) (p ++ drop to ds₁) (s ++ drop (to - 1) fs₁)
+      pub merge_part : Merges ds fs (Ok (record { from = from; to = to })) (p ++ drop to ds₁) (s ++ drop (to - 1) fs₁)
       unfolding left_from left_of Within UpTo
       merge_part =
           let b = before to refl f.some in
           let z = merge_size in
           let w = merge_size_flags in
-          let x = in_front_lem p (drop to ds₁) to from (omega arith) (omega arith) in
-          let y = in_front_lem s (drop (to - 1) fs₁) (to - 1) from (omega arith) (omega arith) in
+          let x = front_kept p (drop to ds₁) to from (omega arith) (omega arith) in
+          let y = front_kept s (drop (to - 1) fs₁) (to - 1) from (omega arith) (omega arith) in
           let a : given (pair (drop from p) (drop from s)) ≡ merge_front (pair (take to ds₁) (take (to - 1) fs₁)) = rw e at m.says in
           record { says = rw (x, y) (a ∙ ap merge_front ended); within = (b, f.few); up_to = merge_size ∙ ap length f.dates }
 
@@ -185,7 +189,7 @@ unfolding meet_at_front
 two_at_front l e = leb-true 2 (length l) (both _ _ e).0
 
 -- where the merges left the dates tells what they took away
-module _ (paid flags : List ℕ) (from to : ℕ) (paid₁ flags₁ : List ℕ) (m : Merges paid flags (left_is.Part from to) paid₁ flags₁) (size : length paid₁ ≡ length paid) where
+module _ (paid flags : List ℕ) (from to : ℕ) (paid₁ flags₁ : List ℕ) (m : Merges paid flags (Ok (record { from = from; to = to })) paid₁ flags₁) (size : length paid₁ ≡ length paid) where
   inside : (from < to) × (to ≤ length paid)
   unfolding Within
   inside = m.within
@@ -228,44 +232,60 @@ module _ (paid flags : List ℕ) (from to : ℕ) (paid₁ flags₁ : List ℕ) (
       ∙ ap (without_second (meet_at_front (without_former (meet_at_end paid) paid))) e
 
 -- ---- all of it
-pub part_left : (ds fs : List ℕ) (l : Left) (ds' fs' : List ℕ) → Merges ds fs l ds' fs' → (from to : ℕ) → l ≡ left_is.Part from to → (from < to) × (to ≤ length ds)
+pub part_left : (ds fs : List ℕ) (l : Result Part Refusal) (ds' fs' : List ℕ) → Merges ds fs l ds' fs' → (p : Part) → l ≡ Ok p → (p.from < p.to) × (p.to ≤ length ds)
 unfolding Within
-part_left ds fs l ds' fs' m from to e = let v : Within l (length ds) = m.within in rw e at v
+part_left ds fs l ds' fs' m p e = let v : Within l (length ds) = m.within in rw e at v
 
-module _ (q : Request) (closed : List ℕ) (seed tries : ℕ) (work marks : List ℕ) (size : ℕ) (dates flags unadjusted : List ℕ) (number : ℕ) (p : number ≡ lent_refusal (length work) size (length marks) (length dates) (length flags) (length unadjusted)) (z : number ≡ 0) (r : Done) (work₁ paid₁ : List ℕ) (d : paired r work₁ paid₁ ≡ pairs_of q closed seed work) where
+pub none_lent : {lent : Done} {k : ℕ} → number (answered lent) ≡ k → (v : Unit {0}) → lent ≡ Ok v → 0 ≡ k
+unfolding number
+none_lent p v z = rw z at p
+
+-- what `?` hands on, as the record of a build
+handed_built : (x : Result Built Refusal) (r : Refusal) → IsErr x × IsErrAnd x (λ k. k ≡ r) → built_or_refused x ≡ refused_built (number_of r)
+handed_built (Ok b) r h = absurd (false≢true h.0)
+handed_built (Err k) r h = rw h.1 refl
+
+module _ (q : Request) (closed : List ℕ) (seed tries : ℕ) (work marks : List ℕ) (size : ℕ) (dates flags unadjusted : List ℕ) (lent : Done) (p : number (answered lent) ≡ lent_refusal (length work) size (length marks) (length dates) (length flags) (length unadjusted)) where
   abbrev Out : Answer Entries
   Out = completed q closed seed tries work marks size (length dates) (length flags) (length unadjusted)
 
-  finished : then (pairs_of q closed seed work) (merged_entries marks tries) ≡ Out
-  finished = completed_on q closed seed tries work marks size (length dates) (length flags) (length unadjusted) number p z
+  pub lent_stops : (n : Refusal) (x : Result Built Refusal) → lent ≡ Err n → IsErr x × IsErrAnd x (λ k. k ≡ n) → Written q Out (built_or_refused x) dates flags unadjusted dates flags unadjusted
+  unfolding number
+  lent_stops n x e h =
+      let r : number_of n ≡ lent_refusal (length work) size (length marks) (length dates) (length flags) (length unadjusted) = rw e at p in
+      lent_stop q closed seed tries work marks size dates flags unadjusted (number_of n) _ r (never_0 n) (handed_built x n h)
 
-  stopped : (n : ℕ) (b : Built) → refused n ≡ then (pairs_of q closed seed work) (merged_entries marks tries) → b ≡ refused_built n → Written q Out b dates flags unadjusted dates flags unadjusted
-  stopped n b e h = written_as q (refused n) _ b dates flags unadjusted dates flags unadjusted (e ∙ finished) (written_refused q n b dates flags unadjusted h)
+  module _ (v : Unit {0}) (z : lent ≡ Ok v) (r : Done) (work₁ paid₁ : List ℕ) (d : done r (pairs work₁ paid₁) ≡ pairs_of q closed seed work) where
+    finished : then (pairs_of q closed seed work) (merged_entries marks tries) ≡ Out
+    finished = completed_on q closed seed tries work marks size (length dates) (length flags) (length unadjusted) 0 (none_lent p v z) refl
 
-  pub pairs_stop : (n : ℕ) (b : Built) → r ≡ Refused n → b ≡ refused_built n → Written q Out b dates flags unadjusted dates flags unadjusted
-  unfolding paired
-  pairs_stop n b e h = stopped n b (then_refused _ n (merged_entries marks tries) (sym (rw e at d))) h
+    stopped : (n : Refusal) (x : Result Built Refusal) → refused (number_of n) ≡ then (pairs_of q closed seed work) (merged_entries marks tries) → IsErr x × IsErrAnd x (λ k. k ≡ n) → Written q Out (built_or_refused x) dates flags unadjusted dates flags unadjusted
+    stopped n x e h = written_as q (refused (number_of n)) _ _ dates flags unadjusted dates flags unadjusted (e ∙ finished) (written_refused q (number_of n) _ dates flags unadjusted (handed_built x n h))
 
-  module _ (e : r ≡ Whole) (l : Left) (paid₂ marks₂ : List ℕ) (m : Merges paid₁ marks l paid₂ marks₂) where
-    both_dates : pairs_of q closed seed work ≡ given (record { paid = paid₁; unadjusted = work₁ })
-    unfolding paired
-    both_dates = sym (rw e at d)
+    pub pairs_stop : (n : Refusal) (x : Result Built Refusal) → r ≡ Err n → IsErr x × IsErrAnd x (λ k. k ≡ n) → Written q Out (built_or_refused x) dates flags unadjusted dates flags unadjusted
+    unfolding done
+    pairs_stop n x e h = stopped n x (then_refused _ (number_of n) (merged_entries marks tries) (sym (rw e at d))) h
 
-    pub merge_stop : (n : ℕ) (b : Built) → l ≡ left_is.Refused n → b ≡ refused_built n → Written q Out b dates flags unadjusted dates flags unadjusted
-    unfolding left_of merged_entries
-    merge_stop n b t h =
-        let s : refused n ≡ merge_front (merge_end paid₁ marks) = rw t at m.says in
-        stopped n b (then_given _ _ (merged_entries marks tries) _ both_dates (then_refused _ n _ (sym s))) h
+    module _ (u : Unit {0}) (e : r ≡ Ok u) (l : Result Part Refusal) (paid₂ marks₂ : List ℕ) (m : Merges paid₁ marks l paid₂ marks₂) where
+      both_dates : pairs_of q closed seed work ≡ given (pairs work₁ paid₁)
+      unfolding done
+      both_dates = sym (rw e at d)
 
-    pub written_out : (from to moved : ℕ) (b : Built) (work₂ dates' flags' unadjusted' : List ℕ) → l ≡ left_is.Part from to → length paid₂ ≡ length paid₁ → length work₁ ≡ length paid₁ → work₂ ≡ follow_front from (follow_end to work₁) → CopiedOut from to moved work₂ paid₂ marks₂ dates flags unadjusted dates' flags' unadjusted' → b ≡ accepted_built q (to - from) tries moved → Written q Out b dates flags unadjusted dates' flags' unadjusted'
-    unfolding left_of merged_entries paid_of moved_of then answered dates_after flags_after unadjusted_after accepted_built
-    written_out from to moved b work₂ dates' flags' unadjusted' t even beside follow c h =
-        let n : Merges paid₁ marks (left_is.Part from to) paid₂ marks₂ = rw t at m in
-        let s : given (part_of from to paid₂ marks₂) ≡ merge_front (merge_end paid₁ marks) = n.says in
-        let w = part_left paid₁ marks _ paid₂ marks₂ n from to refl in
-        let count : to - from ≡ length (take (to - from) (drop from paid₂)) = sym (length-take-le (to - from) (drop from paid₂) (omega (arith, length-drop from paid₂, w.1))) in
-        let third : take (to - from) (drop from work₂) ≡ left_beside paid₁ work₁ = rw follow (followed paid₁ marks from to paid₂ marks₂ n even work₁ beside) in
-        let far : moved ≡ farthest (take (to - from) (drop from paid₂)) (left_beside paid₁ work₁) = c.moved_then ∙ ap (farthest (take (to - from) (drop from paid₂))) third in
-        let o : given (record { schedule = record { dates = (part_of from to paid₂ marks₂).dates; flags = (part_of from to paid₂ marks₂).flags; tries = tries }; unadjusted = left_beside paid₁ work₁ }) ≡ then (pairs_of q closed seed work) (merged_entries marks tries) = then_given _ _ (merged_entries marks tries) _ both_dates (then_given _ _ _ _ (sym s) refl) in
-        written_as q _ _ b dates flags unadjusted dates' flags' unadjusted' (o ∙ finished)
-        (record { answer = h ∙ (λ i. accepted_built q (count i) tries (far i)); dates_after_lem = c.dates_then; flags_after_lem = c.flags_then; unadjusted_after_lem = rw third at c.unadjusted_then })
+      pub merge_stop : (n : Refusal) (x : Result Built Refusal) → l ≡ Err n → IsErr x × IsErrAnd x (λ k. k ≡ n) → Written q Out (built_or_refused x) dates flags unadjusted dates flags unadjusted
+      unfolding left_of merged_entries
+      merge_stop n x t h =
+          let s : refused (number_of n) ≡ merge_front (merge_end paid₁ marks) = rw t at m.says in
+          stopped n x (then_given _ _ (merged_entries marks tries) _ both_dates (then_refused _ (number_of n) _ (sym s))) h
+
+      pub written_out : (from to moved : ℕ) (b : Built) (work₂ dates' flags' unadjusted' : List ℕ) → l ≡ Ok (record { from = from; to = to }) → length paid₂ ≡ length paid₁ → length work₁ ≡ length paid₁ → work₂ ≡ follow_front from (follow_end to work₁) → CopiedOut from to moved work₂ paid₂ marks₂ dates flags unadjusted dates' flags' unadjusted' → b ≡ accepted_built q (to - from) tries moved → Written q Out b dates flags unadjusted dates' flags' unadjusted'
+      unfolding left_of merged_entries paid_of moved_of then answered_built dates_after flags_after unadjusted_after accepted_built
+      written_out from to moved b work₂ dates' flags' unadjusted' t even beside follow c h =
+          let n : Merges paid₁ marks (Ok (record { from = from; to = to })) paid₂ marks₂ = rw t at m in
+          let s : given (part_of from to paid₂ marks₂) ≡ merge_front (merge_end paid₁ marks) = n.says in
+          let w = part_left paid₁ marks _ paid₂ marks₂ n (record { from = from; to = to }) refl in
+          let count : to - from ≡ length (take (to - from) (drop from paid₂)) = sym (length-take-le (to - from) (drop from paid₂) (omega (arith, length-drop from paid₂, w.1))) in
+          let third : take (to - from) (drop from work₂) ≡ left_beside paid₁ work₁ = rw follow (followed paid₁ marks from to paid₂ marks₂ n even work₁ beside) in
+          let far : moved ≡ farthest (take (to - from) (drop from paid₂)) (left_beside paid₁ work₁) = c.moved_then ∙ ap (farthest (take (to - from) (drop from paid₂))) third in
+          let o : given (record { schedule = record { dates = (part_of from to paid₂ marks₂).dates; flags = (part_of from to paid₂ marks₂).flags; tries = tries }; unadjusted = left_beside paid₁ work₁ }) ≡ then (pairs_of q closed seed work) (merged_entries marks tries) = then_given _ _ (merged_entries marks tries) _ both_dates (then_given _ _ _ _ (sym s) refl) in
+          written_as q _ _ b dates flags unadjusted dates' flags' unadjusted' (o ∙ finished)
+          (record { answer = h ∙ (λ i. accepted_built q (count i) tries (far i)); dates_after_lem = c.dates_then; flags_after_lem = c.flags_then; unadjusted_after_lem = rw third at c.unadjusted_then })

@@ -13,7 +13,8 @@ use borrow.Author.Rules.{rules}
 use Rattle.refusal.specs.Answer.{COLLAPSED}
 use Rattle.refusal.specs.Laws.Answers.{fails, holds}
 use Rattle.steps.specs.Finish.{merge_end, merge_end_if, meet_at_end, merge_front, merge_front_if, meet_at_front, same_flag}
-use Rattle.finish.specs.declared.merges.Start.TheVariants.{At, Refused}
+use Rattle.std.specs.Prelude.{Ok, Err}
+use Rattle.refusal.specs.declared.Refusal.TheVariants.{Collapsed}
 use Rattle.finish.specs.Ends.{EndMerged, left_from, Short, FrontMerged}
 
 both_true : (a b : Bool) → a ≡ true → b ≡ true → (a && b) ≡ true
@@ -80,15 +81,15 @@ pub ruleset ends = (end_one, end_apart, end_two, end_more, rules)
 
 -- ---- the merge at the front
 module _ (ds fs : List ℕ) where
-  stays : meet_at_front ds ≡ false → FrontMerged ds fs (At 0) ds fs
+  stays : meet_at_front ds ≡ false → FrontMerged ds fs (Ok 0) ds fs
   unfolding merge_front merge_front_if left_from Short
   stays e = record { says = rw e refl; short = omega arith }
 
-  pub front_one : length ds < 2 → FrontMerged ds fs (At 0) ds fs
+  pub front_one : length ds < 2 → FrontMerged ds fs (Ok 0) ds fs
   unfolding meet_at_front
   front_one h = stays (first_false _ _ (lt-leb 2 (length ds) h))
 
-  pub front_apart : get_or ds 0 0 < get_or ds 1 0 → FrontMerged ds fs (At 0) ds fs
+  pub front_apart : get_or ds 0 0 < get_or ds 1 0 → FrontMerged ds fs (Ok 0) ds fs
   unfolding meet_at_front
   front_apart h = stays (second_false (leb 2 (length ds)) _ (lt-leb (get_or ds 1 0) (get_or ds 0 0) h))
 
@@ -97,11 +98,11 @@ module _ (ds fs : List ℕ) where
     unfolding meet_at_front
     join = both_true _ _ (le-leb 2 (length ds) two) (le-leb _ _ h)
 
-    pub front_two : length ds < 3 → FrontMerged ds fs (Refused 15) ds fs
+    pub front_two : length ds < 3 → FrontMerged ds fs (Err Collapsed) ds fs
     unfolding merge_front merge_front_if left_from Short
     front_two few = record { says = rw join (fails COLLAPSED _ _ (lt-leb 3 (length ds) few)); short = tt }
 
-    pub front_more : (f : ℕ) → 3 ≤ length ds → f ≡ same_flag (get_or ds 1 0) (get_or ds 0 0) → FrontMerged ds fs (At 1) (set ds 1 (get_or ds 0 0)) (set fs 1 f)
+    pub front_more : (f : ℕ) → 3 ≤ length ds → f ≡ same_flag (get_or ds 1 0) (get_or ds 0 0) → FrontMerged ds fs (Ok 1) (set ds 1 (get_or ds 0 0)) (set fs 1 f)
     unfolding merge_front merge_front_if left_from Short
     front_more f many e = record { says = rw (join, e) (holds COLLAPSED _ _ _ (le-leb 3 (length ds) many) refl); short = omega arith }
 

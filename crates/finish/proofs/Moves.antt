@@ -6,55 +6,38 @@ use mathlib.Core.List.{List, [], ◌∷◌, ◌++◌, append-nil}
 use Prim.Native.Nat.{ℕ, suc, ◌+◌, ◌-◌, ◌≤◌, ◌<◌}
 use native.Mathlib.Numerals.{add-one}
 use native.Mathlib.Omega.{arith}
-use lib.IntN.{ℤ}
 use lib.ListN.{length, get_or, take, drop, set, length-set, drop_of_length-le, take-append-drop}
 use lib.Seq.{append_snoc, drop-cons, take_all, take-suc-set, drop-set-lt}
 use borrow.Author.Rules.{rules as search_rules}
 use borrow.Rule.Slice.PartMut.{put_mid, Post-is}
 use denote.Enum.Declared.{tag_of}
 use types.Run.{OneOf}
-use Rattle.refusal.specs.Answer.{Answer, given, refused, then}
-use Rattle.date.specs.declared.Date.{Date}
-use Rattle.date.specs.declared.Dated.{Dated}
-use Rattle.date.specs.declared.Dated.TheVariants as dated-is
-use Rattle.date.specs.Date.{dated}
-use Rattle.date.specs.Laws.Made.{given_day, refused_day}
-use Rattle.calendar.specs.declared.Convention.{Convention}
-use Rattle.calendar.specs.declared.Moved.{Moved}
-use Rattle.calendar.specs.declared.Moved.TheVariants as moved-is
+use Rattle.refusal.specs.Answer.{Answer, given, refused, answered, then}
+use Rattle.std.specs.Prelude.{Result, Ok, Err, IsErr, IsErrAnd}
+use Rattle.refusal.specs.declared.Refusal.{Refusal}
+use Rattle.refusal.specs.Refusals.{number_of}
+use Rattle.refusal.specs.Laws.Answers.{was_given, was_refused}
 use Rattle.calendar.specs.Open.{closed_ok}
-use Rattle.calendar.specs.Adjust.{adjusted}
-use Rattle.calendar.specs.Moves as moves
-use Rattle.calendar.specs.Moves.{moved_from}
-use Rattle.calendar.specs.Laws.Moved.{moved_day, moved_refused}
 use Rattle.steps.specs.declared.Move.{Move}
-use Rattle.steps.specs.declared.Move.TheVariants.{ThirdWednesdays, Adjust}
+use Rattle.steps.specs.declared.Move.TheVariants.{ThirdWednesdays}
 use Rattle.steps.specs.declared.Rule.{Rule}
 use Rattle.steps.specs.declared.Rule.TheVariants.{ThirdWednesday, ThirdWednesdayInclusive}
 use Rattle.steps.specs.Rules.{rules, rule_number, one_of}
 use Rattle.steps.specs.Laws.Rules.{agree, keep, keys_of, tags_are, told}
 use Rattle.steps.specs.contracts.Rule.{the_type}
 use Rattle.steps.specs.Finish.{moved, each, between, on_last, on_middle, wednesdays_by, wednesdays}
-use Rattle.finish.specs.declared.moving.Done.{Done}
-use Rattle.finish.specs.declared.moving.Done.TheVariants.{Whole, Refused}
-use Rattle.finish.specs.Moving.{done}
+use Rattle.finish.specs.Moving.{Done, done}
 use Rattle.finish.specs.Paying.{pay_between}
 
 -- the first i of one list stand, the rest is still to be made of another
 unfoldable pub rest : (ℕ → Answer ℕ) → ℕ → List ℕ → List ℕ → Answer (List ℕ)
 rest f i src dst = then (each f (drop i src)) (λ ys. given (take i dst ++ ys))
 
--- dates moved in place
-pub record Underway (mask : ℕ) (closed : List ℕ) (what : Move) (s₀ s : List ℕ) (i : ℕ) : Type 0 where
-  pub within : i ≤ length s
-  pub size : length s ≡ length s₀
-  pub same : closed_ok closed ≡ true → rest (moved mask closed what) i s s ≡ each (moved mask closed what) s₀
-
--- dates moved into another list
-pub record Beside (mask : ℕ) (closed : List ℕ) (what : Move) (src dst₀ dst : List ℕ) (i : ℕ) : Type 0 where
-  pub within : i ≤ length src
-  pub size : length dst ≡ length dst₀
-  pub same : closed_ok closed ≡ true → rest (moved mask closed what) i src dst ≡ each (moved mask closed what) src
+-- what `?` hands on
+pub handed_done : {A : Type 0} (d : Done) (r : Refusal) (left : A) → IsErr d × IsErrAnd d (λ k. k ≡ r) → done d left ≡ refused (number_of r)
+unfolding done
+handed_done (Ok u) r left h = absurd (false≢true h.0)
+handed_done (Err k) r left h = rw h.1 refl
 
 then_same : (a : Answer (List ℕ)) → then a (λ ys. given ys) ≡ a
 unfolding then
@@ -93,78 +76,73 @@ module _ (f : ℕ → Answer ℕ) (src dst : List ℕ) (i : ℕ) where
   rest_none h l = rw (drop_of_length-le src {i = i} h, append-nil, take_all i dst l)
 
 -- ---- the loop in place
-pub underway_none : (mask : ℕ) (closed : List ℕ) (what : Move) (s : List ℕ) → Underway mask closed what s s 0
-underway_none mask closed what s = record { within = omega arith; size = refl; same = λ ok. rest_all (moved mask closed what) s s }
+-- the first i dates of the list are moved
+pub record InPlace (mask : ℕ) (closed : List ℕ) (what : Move) (s₀ s : List ℕ) (i : ℕ) : Type 0 where
+  pub size : length s ≡ length s₀
+  pub same : closed_ok closed ≡ true → rest (moved mask closed what) i s s ≡ each (moved mask closed what) s₀
 
-module _ {mask : ℕ} {closed : List ℕ} {what : Move} {s₀ s : List ℕ} {i : ℕ} (u : Underway mask closed what s₀ s i) where
-  pub underway_whole : length s ≤ i → closed_ok closed ≡ true → done Whole s ≡ each (moved mask closed what) s₀
+pub in_place_none : (mask : ℕ) (closed : List ℕ) (what : Move) (s : List ℕ) → InPlace mask closed what s s 0
+in_place_none mask closed what s = record { size = refl; same = λ ok. rest_all (moved mask closed what) s s }
+
+module _ {mask : ℕ} {closed : List ℕ} {what : Move} {s₀ s : List ℕ} {i : ℕ} (u : InPlace mask closed what s₀ s i) where
+  pub in_place_whole : length s ≤ i → closed_ok closed ≡ true → done (Ok tt) s ≡ each (moved mask closed what) s₀
   unfolding done
-  underway_whole h ok = sym (rest_none (moved mask closed what) s s i h h) ∙ u.same ok
+  in_place_whole h ok = sym (rest_none (moved mask closed what) s s i h h) ∙ u.same ok
 
-  module _ (h : i < length s) (r : Dated) (p : closed_ok closed ≡ true → dated r ≡ moved mask closed what (get_or s i 0)) where
-    pub underway_refused : (n : ℕ) → r ≡ dated-is.Refused n → closed_ok closed ≡ true → done (Refused n) s ≡ each (moved mask closed what) s₀
+  module _ (h : i < length s) (x : Result ℕ Refusal) (p : closed_ok closed ≡ true → answered x ≡ moved mask closed what (get_or s i 0)) where
+    pub in_place_refused : (r : Refusal) (d : Done) → x ≡ Err r → IsErr d × IsErrAnd d (λ k. k ≡ r) → closed_ok closed ≡ true → done d s ≡ each (moved mask closed what) s₀
     unfolding done
-    underway_refused n e ok = sym (rest_refused (moved mask closed what) s s i h n (refused_day r n _ (p ok) e)) ∙ u.same ok
+    in_place_refused r d e t ok = handed_done d r s t ∙ sym (rest_refused (moved mask closed what) s s i h (number_of r) (was_refused x r _ (p ok) e)) ∙ u.same ok
 
-    pub underway_moved : (d : Date) → r ≡ dated-is.Day d → Underway mask closed what s₀ (set s i d.day) (i + 1)
-    underway_moved d e =
-        let l : length (set s i d.day) ≡ length s = length-set s i d.day in
+    pub in_place_moved : (day : ℕ) → x ≡ Ok day → InPlace mask closed what s₀ (set s i day) (i + 1)
+    in_place_moved day e =
         record {
-          within = omega arith;
-          size = l ∙ u.size;
-          same = λ ok. sym (rest_moved (moved mask closed what) s s i h (set s i d.day) d.day h (drop-set-lt (suc i) s i d.day (omega arith)) (given_day r d _ (p ok) e)) ∙ u.same ok;
+          size = length-set s i day ∙ u.size;
+          same = λ ok. sym (rest_moved (moved mask closed what) s s i h (set s i day) day h (drop-set-lt (suc i) s i day (omega arith)) (was_given x day _ (p ok) e)) ∙ u.same ok;
         }
 
-pub ruleset moving = (underway_none, underway_whole, underway_refused, underway_moved, search_rules)
+pub ruleset moving = (in_place_none, in_place_whole, in_place_refused, in_place_moved, search_rules)
 
--- ---- the loop into another list
-pub beside_none : (mask : ℕ) (closed : List ℕ) (what : Move) (src dst : List ℕ) → Beside mask closed what src dst dst 0
-beside_none mask closed what src dst = record { within = omega arith; size = refl; same = λ ok. rest_all (moved mask closed what) src dst }
+-- ---- the loop into another list, where the call answers as `f` says
+-- the first i dates of the one list are moved into the other
+pub record Beside (Says : (ℕ → Answer ℕ) → Type 0) (src dst₀ dst : List ℕ) (i : ℕ) : Type 0 where
+  pub size : length dst ≡ length dst₀
+  pub same : (f : ℕ → Answer ℕ) → Says f → rest f i src dst ≡ each f src
 
-module _ {mask : ℕ} {closed : List ℕ} {what : Move} {src dst₀ dst : List ℕ} {i : ℕ} (u : Beside mask closed what src dst₀ dst i) (even : length src ≡ length dst₀) where
-  pub beside_whole : length src ≤ i → closed_ok closed ≡ true → done Whole dst ≡ each (moved mask closed what) src
+pub beside_none : (Says : (ℕ → Answer ℕ) → Type 0) (src dst : List ℕ) → Beside Says src dst dst 0
+beside_none Says src dst = record { size = refl; same = λ f s. rest_all f src dst }
+
+module _ {Says : (ℕ → Answer ℕ) → Type 0} {src dst₀ dst : List ℕ} {i : ℕ} (u : Beside Says src dst₀ dst i) (even : length src ≡ length dst₀) where
+  pub beside_whole : length src ≤ i → (f : ℕ → Answer ℕ) → Says f → done (Ok tt) dst ≡ each f src
   unfolding done
-  beside_whole h ok = sym (rest_none (moved mask closed what) src dst i h (let s = u.size in omega arith)) ∙ u.same ok
+  beside_whole h f s = sym (rest_none f src dst i h (let z = u.size in omega arith)) ∙ u.same f s
 
-  module _ (h : i < length src) (r : Dated) (p : closed_ok closed ≡ true → dated r ≡ moved mask closed what (get_or src i 0)) where
-    pub beside_refused : (n : ℕ) → r ≡ dated-is.Refused n → closed_ok closed ≡ true → done (Refused n) dst ≡ each (moved mask closed what) src
+  module _ (h : i < length src) (x : Result ℕ Refusal) (p : (f : ℕ → Answer ℕ) → Says f → answered x ≡ f (get_or src i 0)) where
+    pub beside_refused : (r : Refusal) (d : Done) → x ≡ Err r → IsErr d × IsErrAnd d (λ k. k ≡ r) → (f : ℕ → Answer ℕ) → Says f → done d dst ≡ each f src
     unfolding done
-    beside_refused n e ok = sym (rest_refused (moved mask closed what) src dst i h n (refused_day r n _ (p ok) e)) ∙ u.same ok
+    beside_refused r d e t f s = handed_done d r dst t ∙ sym (rest_refused f src dst i h (number_of r) (was_refused x r _ (p f s) e)) ∙ u.same f s
 
-    pub beside_moved : (d : Date) → r ≡ dated-is.Day d → Beside mask closed what src dst₀ (set dst i d.day) (i + 1)
-    beside_moved d e =
-        let s = u.size in
+    pub beside_moved : (day : ℕ) → x ≡ Ok day → Beside Says src dst₀ (set dst i day) (i + 1)
+    beside_moved day e =
+        let z = u.size in
         record {
-          within = omega arith;
-          size = length-set dst i d.day ∙ s;
-          same = λ ok. sym (rest_moved (moved mask closed what) src dst i h src d.day (omega arith) refl (given_day r d _ (p ok) e)) ∙ u.same ok;
+          size = length-set dst i day ∙ z;
+          same = λ f s. sym (rest_moved f src dst i h src day (omega arith) refl (was_given x day _ (p f s) e)) ∙ u.same f s;
         }
-
--- so where the adjustment is asked, which answers the days too
-module _ {mask : ℕ} {closed : List ℕ} {convention : Convention} {src dst₀ dst : List ℕ} {i : ℕ} (u : Beside mask closed (Adjust convention) src dst₀ dst i) (even : length src ≡ length dst₀) (h : i < length src) (m : Moved) (p : closed_ok closed ≡ true → moves.moved m ≡ moved_from (given (get_or src i 0)) (adjusted mask closed convention (get_or src i 0))) where
-  pub adjust_refused : (n : ℕ) → m ≡ moved-is.Refused n → closed_ok closed ≡ true → done (Refused n) dst ≡ each (moved mask closed (Adjust convention)) src
-  unfolding moved dated
-  adjust_refused n e ok = beside_refused u even h (dated-is.Refused n) (λ k. sym (moved_refused _ _ m (p k) n e)) n refl ok
-
-  pub adjust_moved : (d : Date) (days : ℤ) → m ≡ moved-is.Day d days → Beside mask closed (Adjust convention) src dst₀ (set dst i d.day) (i + 1)
-  unfolding moved dated
-  adjust_moved d days e = beside_moved u even h (dated-is.Day d) (λ k. sym (moved_day _ _ m (p k) d days e)) d refl
-
-pub ruleset besides = (beside_none, beside_whole, beside_refused, beside_moved, adjust_refused, adjust_moved, search_rules)
 
 -- ---- a part
 pub part_moved : {P : Type 0} (ok : P) (f : ℕ → Answer ℕ) (a b : ℕ) (s ys : List ℕ) (r : Done) → a ≤ b → (P → done r ys ≡ each f (take (b - a) (drop a s))) → done r (put_mid a (b - a) s ys) ≡ between f a b s
 unfolding between done then
-part_moved ok f a b s ys Whole h e = rw (← e ok, Post-is a b s h)
-part_moved ok f a b s ys (Refused n) h e = rw (← e ok)
+part_moved ok f a b s ys (Ok u) h e = rw (← e ok, Post-is a b s h)
+part_moved ok f a b s ys (Err n) h e = rw (← e ok)
 
 pub part_paid : {P : Type 0} (ok : P) (f : ℕ → Answer ℕ) (a b : ℕ) (work paid ys : List ℕ) (r : Done) → a ≤ b → (P → done r ys ≡ each f (take (b - a) (drop a work))) → done r (put_mid a (b - a) paid ys) ≡ pay_between f a b work paid
 unfolding pay_between done then
-part_paid ok f a b work paid ys Whole h e = rw (← e ok, Post-is a b paid h)
-part_paid ok f a b work paid ys (Refused n) h e = rw (← e ok)
+part_paid ok f a b work paid ys (Ok u) h e = rw (← e ok, Post-is a b paid h)
+part_paid ok f a b work paid ys (Err n) h e = rw (← e ok)
 
 -- ---- the last, the middle
-pub middle_none : (f : ℕ → Answer ℕ) (ds : List ℕ) → length ds < 2 → done Whole ds ≡ on_middle f ds
+pub middle_none : (f : ℕ → Answer ℕ) (ds : List ℕ) → length ds < 2 → done (Ok tt) ds ≡ on_middle f ds
 unfolding on_middle between done then each
 middle_none f ds h =
     let a : length ds - 2 ≡ 0 = omega arith in
@@ -206,11 +184,11 @@ wednesdays_none rule mask closed ds k =
     (sym (told (tag_of the_type) refl (λ a. not (one_of a (ThirdWednesday ∷ [])) && not (one_of a (ThirdWednesdayInclusive ∷ []))) true rule k))
 
 -- ---- one step after another
-module _ {A : Type 0} (f : List ℕ → Answer A) (o : Answer (List ℕ)) (r : Done) (ds : List ℕ) (p : done r ds ≡ o) where
-  pub done_refused : (n : ℕ) → r ≡ Refused n → refused n ≡ then o f
+module _ {A : Type 0} (f : List ℕ → Answer A) (o : Answer (List ℕ)) (d : Done) (ds : List ℕ) (p : done d ds ≡ o) where
+  pub done_refused : (r : Refusal) → d ≡ Err r → refused (number_of r) ≡ then o f
   unfolding done then
-  done_refused n e = rw (← p, e)
+  done_refused r e = rw (← p, e)
 
-  pub done_on : (x : Answer A) → r ≡ Whole → x ≡ f ds → x ≡ then o f
+  pub done_on : (u : Unit {0}) (x : Answer A) → d ≡ Ok u → x ≡ f ds → x ≡ then o f
   unfolding done then
-  done_on x e h = rw (← p, e) h
+  done_on u x e h = rw (← p, e) h

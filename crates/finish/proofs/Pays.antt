@@ -12,20 +12,15 @@ use lib.ListN.{length, get_or, set, take, drop, length-drop}
 use lib.Dec.{eqb}
 use lib.Seq.{drop-drop, drop_at, take_at, take-take, take-nil, drop-nil, length-take-le}
 use borrow.Author.Tests.{eq-eqb, ne_eqb, eqb-true}
-use Rattle.refusal.specs.Answer.{Answer, given, then}
-use Rattle.refusal.specs.Laws.Answers.{then_given, then_refused, then_stepped, one_given}
-use Rattle.date.specs.declared.Date.{Date}
-use Rattle.date.specs.declared.Dated.{Dated}
-use Rattle.date.specs.declared.Dated.TheVariants as dated-is
-use Rattle.date.specs.Date.{dated}
-use Rattle.date.specs.Laws.Made.{given_day, refused_day}
+use Rattle.refusal.specs.Answer.{Answer, given, refused, answered, then}
+use Rattle.refusal.specs.Laws.Answers.{then_given, then_refused, then_stepped, one_given, was_given, was_refused}
+use Rattle.std.specs.Prelude.{Result, Ok, Err}
+use Rattle.refusal.specs.declared.Refusal.{Refusal}
+use Rattle.refusal.specs.Refusals.{number_of}
 use Rattle.calendar.specs.declared.Convention.{Convention}
-use Rattle.calendar.specs.declared.Decided.{Decided}
-use Rattle.calendar.specs.declared.Decided.TheVariants as decided-is
 use Rattle.calendar.specs.Open.{closed_ok}
 use Rattle.calendar.specs.Inner.Always.{convention_on, on_as}
 use Rattle.calendar.specs.Adjust.{adjusted}
-use Rattle.calendar.specs.Calendar.{decided}
 use Rattle.steps.specs.declared.Move.{Move}
 use Rattle.steps.specs.declared.Move.TheVariants.{Stay, Adjust}
 use Rattle.steps.specs.declared.Rule.{Rule}
@@ -41,9 +36,7 @@ use Rattle.steps.specs.Inner.Same.{same_convention, same_equal}
 use Rattle.steps.specs.Inner.Sure.{Surely}
 use Rattle.steps.specs.Laws.Parts.{each_moved, moved_on, as_many}
 use Rattle.finish.specs.declared.Paid.{Paid}
-use Rattle.finish.specs.declared.moving.Done.{Done}
-use Rattle.finish.specs.declared.moving.Done.TheVariants.{Whole, Refused}
-use Rattle.finish.specs.Moving.{done, paired}
+use Rattle.finish.specs.Moving.{Done, done, pairs}
 use Rattle.finish.specs.Paying.{pay_between, PaidAlready, Narrowed, FirstPaid, LastPaid, LastKnown, LastKept, paid_if, still_paid, pay_last_of, pay_last, pay_middle, paying}
 use Rattle.finish.specs.Laws.Paying.{pay_one, paid_stays, pay_around, paying_is}
 use Rattle.finish.proofs.Moves.{done_refused, done_on}
@@ -62,19 +55,18 @@ unfolding each
 none_paid f a ds ps = let z : a - a ≡ 0 = omega arith in record { so = rw z refl }
 
 -- and nothing is to be filled in
-pub pays_none : (f : ℕ → Answer ℕ) (a b : ℕ) (ds ps : List ℕ) → a ≡ b → b ≤ length ds → length ds ≡ length ps → done Whole ps ≡ pay_between f a b ds ps
+pub pays_none : (f : ℕ → Answer ℕ) (a b : ℕ) (ds ps : List ℕ) → a ≡ b → b ≤ length ds → length ds ≡ length ps → done (Ok tt) ps ≡ pay_between f a b ds ps
 unfolding done
 pays_none f a b ds ps e h even = rw (← e) (sym (paid_stays f ds ps a a a (omega arith) (omega arith) (omega (arith, e, h)) even (none_paid f a ds ps)))
 
 -- ---- one date
-module _ (f : ℕ → Answer ℕ) (at : ℕ) (ds ps : List ℕ) (h : at < length ds) (even : length ds ≡ length ps) (next : Dated) (p : dated next ≡ f (get_or ds at 0)) where
-  pub one_moved : (d : Date) → next ≡ dated-is.Day d → done Whole (set ps at d.day) ≡ pay_between f at (at + 1) ds ps
+module _ (f : ℕ → Answer ℕ) (at : ℕ) (ds ps : List ℕ) (h : at < length ds) (even : length ds ≡ length ps) (next : Result ℕ Refusal) (p : answered next ≡ f (get_or ds at 0)) where
+  pub one_moved : (day : ℕ) → next ≡ Ok day → done (Ok tt) (set ps at day) ≡ pay_between f at (at + 1) ds ps
   unfolding done
-  one_moved d e = sym (pay_one f ds ps at h even ∙ sym (then_given _ d.day _ _ (given_day next d _ p e) refl))
+  one_moved day e = sym (pay_one f ds ps at h even ∙ sym (then_given _ day _ _ (was_given next day _ p e) refl))
 
-  pub one_refused : (n : ℕ) (ps' : List ℕ) → next ≡ dated-is.Refused n → done (Refused n) ps' ≡ pay_between f at (at + 1) ds ps
-  unfolding done
-  one_refused n ps' e = sym (pay_one f ds ps at h even ∙ sym (then_refused _ n _ (refused_day next n _ p e)))
+  pub one_refused : (r : Refusal) → next ≡ Err r → refused (number_of r) ≡ pay_between f at (at + 1) ds ps
+  one_refused r e = sym (pay_one f ds ps at h even ∙ sym (then_refused _ (number_of r) _ (was_refused next r _ p e)))
 
 -- some of those that are paid
 module _ (f : ℕ → Answer ℕ) where
@@ -171,12 +163,11 @@ module _ (f : ℕ → Answer ℕ) (known : Paid) (work paid : List ℕ) (end : �
   around : pay_between f 1 (1 + (length work - 2)) work paid ≡ then (pay_between f 1 known.from work paid) (pay_between f known.to (1 + (length work - 2)) work)
   around = pay_around f work paid 1 known.from known.to (1 + (length work - 2)) first order last (omega arith) even p
 
-  pub unpaid_refused : (n : ℕ) → r ≡ Refused n → done (Refused n) paid₁ ≡ pay_between f 1 (1 + (length work - 2)) work paid
-  unfolding done
+  pub unpaid_refused : (n : Refusal) → r ≡ Err n → refused (number_of n) ≡ pay_between f 1 (1 + (length work - 2)) work paid
   unpaid_refused n e = done_refused (pay_between f known.to (1 + (length work - 2)) work) _ r paid₁ d n e ∙ sym around
 
-  pub unpaid_on : (t : Done) (paid₂ : List ℕ) → r ≡ Whole → done t paid₂ ≡ pay_between f known.to end work paid₁ → done t paid₂ ≡ pay_between f 1 (1 + (length work - 2)) work paid
-  unpaid_on t paid₂ e h = done_on (pay_between f known.to (1 + (length work - 2)) work) _ r paid₁ d _ e (rw at at h) ∙ sym around
+  pub unpaid_on : (u : Unit {0}) (t : Done) (paid₂ : List ℕ) → r ≡ Ok u → done t paid₂ ≡ pay_between f known.to end work paid₁ → done t paid₂ ≡ pay_between f 1 (1 + (length work - 2)) work paid
+  unpaid_on u t paid₂ e h = done_on (pay_between f known.to (1 + (length work - 2)) work) _ r paid₁ d u _ e (rw at at h) ∙ sym around
 
 -- ---- the middle dates
 -- two conventions that adjust every day alike move it alike
@@ -188,14 +179,14 @@ as_adjusted : (mask : ℕ) (closed : List ℕ) (convention : Convention) → mov
 unfolding moved middle_move
 as_adjusted mask closed convention = refl
 
-module _ (q : Request) (closed : List ℕ) (seed : ℕ) (work paid : List ℕ) (end : Decided) (p : closed_ok closed ≡ true → decided end ≡ seed_at_end q.monthend q.mask closed seed) (ok : closed_ok closed ≡ true) where
-  pub seed_refused : (n : ℕ) (paid₁ : List ℕ) → end ≡ decided-is.Refused n → done (Refused n) paid₁ ≡ pay_middle q closed seed work paid
-  unfolding pay_middle decided then done
-  seed_refused n paid₁ e = rw (← p ok, e)
+module _ (q : Request) (closed : List ℕ) (seed : ℕ) (work paid : List ℕ) (end : Result Bool Refusal) (p : closed_ok closed ≡ true → answered end ≡ seed_at_end q.monthend q.mask closed seed) (ok : closed_ok closed ≡ true) where
+  pub seed_refused : (n : Refusal) → end ≡ Err n → refused (number_of n) ≡ pay_middle q closed seed work paid
+  unfolding pay_middle then
+  seed_refused n e = rw (← p ok, e)
 
-  pub seed_at_end_lem : (what : Move) (at : ℕ) (r : Done) (paid₁ : List ℕ) → end ≡ decided-is.Yes → what ≡ middle_move true q.convention → at ≡ 1 + (length work - 2) → done r paid₁ ≡ pay_between (moved q.mask closed what) 1 at work paid → done r paid₁ ≡ pay_middle q closed seed work paid
-  unfolding pay_middle decided then
-  seed_at_end_lem what at r paid₁ e w a h = rw (← p ok, e, ← w) (rw a at h)
+  pub at_month_ends : (what : Move) (at : ℕ) (r : Done) (paid₁ : List ℕ) → end ≡ Ok true → what ≡ middle_move true q.convention → at ≡ 1 + (length work - 2) → done r paid₁ ≡ pay_between (moved q.mask closed what) 1 at work paid → done r paid₁ ≡ pay_middle q closed seed work paid
+  unfolding pay_middle then
+  at_month_ends what at r paid₁ e w a h = rw (← p ok, e, ← w) (rw a at h)
 
   module _ (way : Convention) (on : way ≡ convention_on q.mask closed q.convention) (what : Move) (w : what ≡ middle_move false way) where
     alike : moved q.mask closed what ≡ adjusted q.mask closed q.convention
@@ -204,8 +195,8 @@ module _ (q : Request) (closed : List ℕ) (seed : ℕ) (work paid : List ℕ) (
     pub way_paid : (a b : ℕ) → PaidAlready (adjusted q.mask closed q.convention) a b work paid → PaidAlready (moved q.mask closed what) a b work paid
     way_paid a b k = subst (λ (g : ℕ → Answer ℕ). PaidAlready g a b work paid) (sym alike) k
 
-    pub seed_within : (r : Done) (paid₁ : List ℕ) → end ≡ decided-is.No → done r paid₁ ≡ pay_between (moved q.mask closed what) 1 (1 + (length work - 2)) work paid → done r paid₁ ≡ pay_middle q closed seed work paid
-    unfolding pay_middle decided then
+    pub seed_within : (r : Done) (paid₁ : List ℕ) → end ≡ Ok false → done r paid₁ ≡ pay_between (moved q.mask closed what) 1 (1 + (length work - 2)) work paid → done r paid₁ ≡ pay_middle q closed seed work paid
+    unfolding pay_middle then
     seed_within r paid₁ e h =
         rw (← p ok, e) (h ∙ ap (λ (g : ℕ → Answer ℕ). pay_between g 1 (1 + (length work - 2)) work paid) (alike ∙ sym (as_adjusted q.mask closed q.convention)))
 
@@ -235,7 +226,7 @@ last_kept f g known ds ps ps' even e p =
           λ from to two. after_first f g (length ds - 1) (length ds) ds ps ps' even (omega arith) (omega arith) e (part_paid f ds ps known.from known.to (length ds - 1) (length ds) (omega arith) (omega arith) to p);
     }
 
-pub last_stays : (q : Request) (closed work paid : List ℕ) (what : Move) → what ≡ last_move q → (known : Paid) → (length work ≡ 1 → ⊥) → 1 ≤ length work → length work ≡ length paid → LastPaid q.convention what known (length work) → LastKept (adjusted q.mask closed q.convention) known work paid → done Whole paid ≡ pay_last q closed work paid
+pub last_stays : (q : Request) (closed work paid : List ℕ) (what : Move) → what ≡ last_move q → (known : Paid) → (length work ≡ 1 → ⊥) → 1 ≤ length work → length work ≡ length paid → LastPaid q.convention what known (length work) → LastKept (adjusted q.mask closed q.convention) known work paid → done (Ok tt) paid ≡ pay_last q closed work paid
 unfolding pay_last pay_last_of done
 last_stays q closed work paid what w known e some even l k =
     let p = k.kept l.from l.to (omega (arith, e)) in
@@ -253,7 +244,7 @@ one_filled f ds ps k n y e h even m =
 pub known_last : (what : Move) (convention : Convention) (last : Sure) (day : ℕ) → what ≡ Adjust convention → (last.paid ≡ 0 → ⊥) → last.day ≡ day → LastKnown what last day
 known_last what convention last day e known on = record { known = known; on = on; moves = never_stays what convention e }
 
-pub last_known : (q : Request) (closed work paid : List ℕ) (what : Move) → what ≡ last_move q → (last : Sure) → (length work ≡ 1 → ⊥) → 1 ≤ length work → length work ≡ length paid → LastKnown what last (get_or work (length work - 1) 0) → Surely (adjusted q.mask closed q.terminal) last → done Whole (set paid (length work - 1) last.paid) ≡ pay_last q closed work paid
+pub last_known : (q : Request) (closed work paid : List ℕ) (what : Move) → what ≡ last_move q → (last : Sure) → (length work ≡ 1 → ⊥) → 1 ≤ length work → length work ≡ length paid → LastKnown what last (get_or work (length work - 1) 0) → Surely (adjusted q.mask closed q.terminal) last → done (Ok tt) (set paid (length work - 1) last.paid) ≡ pay_last q closed work paid
 unfolding pay_last pay_last_of done last_move
 last_known q closed work paid what w last e some even l s =
     let day : adjusted q.mask closed q.terminal (get_or work (length work - 1) 0) ≡ given last.paid = rw l.on at (s.so l.known) in
@@ -278,7 +269,7 @@ first_paid what convention known e from some =
     record { from = from; some = omega arith; moves = never_stays what convention e }
 
 module _ (q : Request) (closed work paid : List ℕ) (some : 1 ≤ length work) (even : length work ≡ length paid) (what : Move) (w : what ≡ first_move q) where
-  pub first_stays : (known : Paid) → FirstPaid what known → PaidAlready (adjusted q.mask closed q.convention) known.from known.to work paid → done Whole paid ≡ pay_between (moved q.mask closed (first_move q)) 0 1 work paid
+  pub first_stays : (known : Paid) → FirstPaid what known → PaidAlready (adjusted q.mask closed q.convention) known.from known.to work paid → done (Ok tt) paid ≡ pay_between (moved q.mask closed (first_move q)) 0 1 work paid
   unfolding done first_move
   first_stays known f p =
       let e = unless_adjusts q.mask closed (is_old_cds (rule_in_force q)) q.convention (λ h. f.moves (w ∙ h)) in
@@ -294,27 +285,27 @@ module _ (q : Request) (closed : List ℕ) (seed : ℕ) (work paid : List ℕ) (
   whole : paying q closed seed work paid ≡ adjustments q closed seed work
   whole = paying_is q closed seed work paid some even
 
-  pub dates_refused : (n : ℕ) (paid₂ : List ℕ) → r ≡ Refused n → done (Refused n) paid₂ ≡ adjustments q closed seed work
-  unfolding done paying
-  dates_refused n paid₂ e = done_refused _ _ r paid₁ d n e ∙ whole
+  pub dates_refused : (n : Refusal) → r ≡ Err n → refused (number_of n) ≡ adjustments q closed seed work
+  unfolding paying
+  dates_refused n e = done_refused _ _ r paid₁ d n e ∙ whole
 
-  pub dates_kept : (f : ℕ → Answer ℕ) (known : Paid) → r ≡ Whole → PaidAlready f known.from known.to work paid → LastKept f known work paid₁
+  pub dates_kept : (u : Unit {0}) (f : ℕ → Answer ℕ) (known : Paid) → r ≡ Ok u → PaidAlready f known.from known.to work paid → LastKept f known work paid₁
   unfolding done
-  dates_kept f known e p = last_kept f (moved q.mask closed (first_move q)) known work paid paid₁ even (rw e at d) p
+  dates_kept u f known e p = last_kept f (moved q.mask closed (first_move q)) known work paid paid₁ even (rw e at d) p
 
-  module _ (e : r ≡ Whole) (t : Done) (paid₂ : List ℕ) (l : done t paid₂ ≡ pay_last q closed work paid₁) where
-    pub dates_last_refused : (n : ℕ) (paid₃ : List ℕ) → t ≡ Refused n → done (Refused n) paid₃ ≡ adjustments q closed seed work
-    unfolding done paying
-    dates_last_refused n paid₃ h = done_on _ _ r paid₁ d _ e (done_refused (pay_middle q closed seed work) _ t paid₂ l n h) ∙ whole
-
-    pub dates_on : (u : Done) (paid₃ : List ℕ) → t ≡ Whole → done u paid₃ ≡ pay_middle q closed seed work paid₂ → done u paid₃ ≡ adjustments q closed seed work
+  module _ (u : Unit {0}) (e : r ≡ Ok u) (t : Done) (paid₂ : List ℕ) (l : done t paid₂ ≡ pay_last q closed work paid₁) where
+    pub dates_last_refused : (n : Refusal) → t ≡ Err n → refused (number_of n) ≡ adjustments q closed seed work
     unfolding paying
-    dates_on u paid₃ h m = done_on _ _ r paid₁ d _ e (done_on (pay_middle q closed seed work) _ t paid₂ l _ h m) ∙ whole
+    dates_last_refused n h = done_on _ _ r paid₁ d u _ e (done_refused (pay_middle q closed seed work) _ t paid₂ l n h) ∙ whole
+
+    pub dates_on : (v : Unit {0}) (w : Done) (paid₃ : List ℕ) → t ≡ Ok v → done w paid₃ ≡ pay_middle q closed seed work paid₂ → done w paid₃ ≡ adjustments q closed seed work
+    unfolding paying
+    dates_on v w paid₃ h m = done_on _ _ r paid₁ d u _ e (done_on (pay_middle q closed seed work) _ t paid₂ l v _ h m) ∙ whole
 
     -- those that were paid still are
-    pub among_paid : (n : ℕ) (known among : Paid) → t ≡ Whole → n ≡ length work → Narrowed n known among → length paid₁ ≡ length paid → (f : ℕ → Answer ℕ) → PaidAlready f known.from known.to work paid → PaidAlready f among.from among.to work paid₂
+    pub among_paid : (v : Unit {0}) (n : ℕ) (known among : Paid) → t ≡ Ok v → n ≡ length work → Narrowed n known among → length paid₁ ≡ length paid → (f : ℕ → Answer ℕ) → PaidAlready f known.from known.to work paid → PaidAlready f among.from among.to work paid₂
     unfolding done
-    among_paid n known among h size narrow long f p =
+    among_paid v n known among h size narrow long f p =
         let one : given paid₁ ≡ pay_between (moved q.mask closed (first_move q)) 0 1 work paid = rw e at d in
         let two : given paid₂ ≡ pay_last q closed work paid₁ = rw h at l in
         let a = narrowed_paid f work paid n known among p narrow in
@@ -346,24 +337,24 @@ by_wednesdays false false f known mask closed ds g ps h p =
     let e : g ≡ ds = one_given (given g) g ds refl h in
     rw e p
 
-paid_on : (t : Done) (paid g : List ℕ) (o : Answer (List ℕ)) → done t paid ≡ o → paired t g paid ≡ then o (λ p. given (record { paid = p; unadjusted = g }))
-unfolding done paired then
-paid_on Whole paid g o h = rw (← h) refl
-paid_on (Refused n) paid g o h = rw (← h) refl
+paid_on : (t : Done) (paid g : List ℕ) (o : Answer (List ℕ)) → done t paid ≡ o → done t (pairs g paid) ≡ then o (λ p. given (pairs g p))
+unfolding done then
+paid_on (Ok u) paid g o h = rw (← h) refl
+paid_on (Err n) paid g o h = rw (← h) refl
 
 module _ (q : Request) (closed : List ℕ) (seed : ℕ) (ds ds₁ : List ℕ) (rule : Rule) (f : rule ≡ rule_in_force q) (r : Done) (d : done r ds₁ ≡ wednesdays rule q.mask closed ds) where
-  pub pairs_refused : (n : ℕ) (paid : List ℕ) → r ≡ Refused n → paired (Refused n) ds₁ paid ≡ pairs_of q closed seed ds
-  unfolding paired pairs_of
-  pairs_refused n paid e = done_refused (λ g. then (adjustments q closed seed g) (λ p. given (record { paid = p; unadjusted = g }))) _ r ds₁ (rw f at d) n e
+  pub pairs_refused : (n : Refusal) → r ≡ Err n → refused (number_of n) ≡ pairs_of q closed seed ds
+  unfolding pairs_of
+  pairs_refused n e = done_refused (λ g. then (adjustments q closed seed g) (λ p. given (pairs g p))) _ r ds₁ (rw f at d) n e
 
-  module _ (e : r ≡ Whole) where
+  module _ (u : Unit {0}) (e : r ≡ Ok u) where
     pub pairs_paid : (A : ℕ → Answer ℕ) (known known' : Paid) (ps : List ℕ) → known' ≡ still_paid rule known → PaidAlready A known.from known.to ds ps → PaidAlready A known'.from known'.to ds₁ ps
     unfolding still_paid wednesdays done
     pairs_paid A known known' ps k p =
         let h : given ds₁ ≡ wednesdays_by (one_of rule (ThirdWednesday ∷ [])) (one_of rule (ThirdWednesdayInclusive ∷ [])) q.mask closed ds = rw e at d in
         rw k (by_wednesdays (one_of rule (ThirdWednesday ∷ [])) (one_of rule (ThirdWednesdayInclusive ∷ [])) A known q.mask closed ds ds₁ ps h p)
 
-    pub pairs_on : (t : Done) (paid : List ℕ) → done t paid ≡ adjustments q closed seed ds₁ → paired t ds₁ paid ≡ pairs_of q closed seed ds
+    pub pairs_on : (t : Done) (paid : List ℕ) → done t paid ≡ adjustments q closed seed ds₁ → done t (pairs ds₁ paid) ≡ pairs_of q closed seed ds
     unfolding pairs_of
     pairs_on t paid h =
-        done_on (λ g. then (adjustments q closed seed g) (λ p. given (record { paid = p; unadjusted = g }))) _ r ds₁ (rw f at d) _ e (paid_on t paid ds₁ _ h)
+        done_on (λ g. then (adjustments q closed seed g) (λ p. given (pairs g p))) _ r ds₁ (rw f at d) u _ e (paid_on t paid ds₁ _ h)

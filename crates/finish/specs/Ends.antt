@@ -1,14 +1,13 @@
 -- What the two merges leave in the part of the working lists that holds the schedule, and what is copied out.
 -- Assumes nothing.
-use Rattle.std.specs.Prelude.{ℕ, ◌-◌, ◌≤◌, ◌<◌, ◌≡◌, List, length, take, drop}
+use Rattle.std.specs.Prelude.{ℕ, ◌-◌, ◌≤◌, ◌<◌, ◌≡◌, List, length, take, drop, Result, Ok, Err}
+use Rattle.refusal.specs.declared.Refusal.{Refusal}
+use Rattle.refusal.specs.Refusals.{number_of}
 use Rattle.refusal.specs.Answer.{Answer, given, refused}
 use Rattle.steps.specs.Finish.{Merged, merge_end, merge_front}
 use Rattle.steps.specs.Build.{over}
 use Rattle.steps.specs.Entries.{farthest}
-use Rattle.finish.specs.declared.merges.Start.{Start}
-use Rattle.finish.specs.declared.merges.Start.TheVariants.{At, Refused}
-use Rattle.finish.specs.declared.merges.Left.{Left}
-use Rattle.finish.specs.declared.merges.Left.TheVariants as left_is
+use Rattle.finish.specs.declared.merges.Part.{Part}
 
 -- the first r dates, and the flags between them, are those of the merge at the end
 pub record EndMerged (ds fs : List ℕ) (r : ℕ) (ds' fs' : List ℕ) : Type 0 where
@@ -18,15 +17,15 @@ pub record EndMerged (ds fs : List ℕ) (r : ℕ) (ds' fs' : List ℕ) : Type 0 
   pub flags : take (r - 1) fs' ≡ (merge_end ds fs).flags
 
 -- what is left from a place on
-unfoldable pub left_from : Start → List ℕ → List ℕ → Answer Merged
-left_from (At k) ds fs = given (record { dates = drop k ds; flags = drop k fs })
-left_from (Refused n) ds fs = refused n
+unfoldable pub left_from : Result ℕ Refusal → List ℕ → List ℕ → Answer Merged
+left_from (Ok k) ds fs = given (record { dates = drop k ds; flags = drop k fs })
+left_from (Err r) ds fs = refused (number_of r)
 
-unfoldable pub Short : Start → ℕ → Type 0
-Short (At k) n = k ≤ 1
-Short (Refused m) n = Unit {0}
+unfoldable pub Short : Result ℕ Refusal → ℕ → Type 0
+Short (Ok k) n = k ≤ 1
+Short (Err r) n = Unit {0}
 
-pub record FrontMerged (ds fs : List ℕ) (r : Start) (ds' fs' : List ℕ) : Type 0 where
+pub record FrontMerged (ds fs : List ℕ) (r : Result ℕ Refusal) (ds' fs' : List ℕ) : Type 0 where
   pub says : left_from r ds' fs' ≡ merge_front (record { dates = ds; flags = fs })
   pub short : Short r (length ds)
 
@@ -36,20 +35,20 @@ part_of from to ds fs =
     record { dates = take (to - from) (drop from ds); flags = take (to - 1 - from) (drop from fs) }
 
 -- what both merges leave
-unfoldable pub left_of : Left → List ℕ → List ℕ → Answer Merged
-left_of (left_is.Part from to) ds fs = given (part_of from to ds fs)
-left_of (left_is.Refused n) ds fs = refused n
+unfoldable pub left_of : Result Part Refusal → List ℕ → List ℕ → Answer Merged
+left_of (Ok p) ds fs = given (part_of p.from p.to ds fs)
+left_of (Err r) ds fs = refused (number_of r)
 
-unfoldable pub Within : Left → ℕ → Type 0
-Within (left_is.Part from to) n = (from < to) × (to ≤ n)
-Within (left_is.Refused m) n = Unit {0}
+unfoldable pub Within : Result Part Refusal → ℕ → Type 0
+Within (Ok p) n = (p.from < p.to) × (p.to ≤ n)
+Within (Err r) n = Unit {0}
 
 -- where the merge at the end left the last date
-unfoldable pub UpTo : Left → ℕ → Type 0
-UpTo (left_is.Part from to) n = to ≡ n
-UpTo (left_is.Refused m) n = Unit {0}
+unfoldable pub UpTo : Result Part Refusal → ℕ → Type 0
+UpTo (Ok p) n = p.to ≡ n
+UpTo (Err r) n = Unit {0}
 
-pub record Merges (ds fs : List ℕ) (r : Left) (ds' fs' : List ℕ) : Type 0 where
+pub record Merges (ds fs : List ℕ) (r : Result Part Refusal) (ds' fs' : List ℕ) : Type 0 where
   pub says : left_of r ds' fs' ≡ merge_front (merge_end ds fs)
   pub within : Within r (length ds)
   pub up_to : UpTo r (length (merge_end ds fs).dates)

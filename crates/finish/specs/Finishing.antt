@@ -1,11 +1,14 @@
 -- The last steps of a build: what they are lent, and what they answer.
 -- Assumes nothing.
-use Rattle.std.specs.Prelude.{ℕ, zero, suc, ◌+◌, ◌≤◌, min, ◌≡◌, ◌&&◌, List, eqb, leb, length}
+use Rattle.std.specs.Prelude.{ℕ, zero, suc, ◌+◌, ◌≤◌, min, ◌≡◌, ◌&&◌, List, eqb, leb, length, Result, Ok, Err}
+use Rattle.refusal.specs.declared.Refusal.{Refusal}
+use Rattle.refusal.specs.Refusals.{number_of}
 use Rattle.refusal.specs.Answer.{Answer, refused, then, UNEVEN, ROOM}
 use Rattle.date.specs.Civil.{pick_n}
 use Rattle.steps.specs.declared.Request.{Request}
 use Rattle.steps.specs.declared.Built.{Built}
 use Rattle.steps.specs.Rules.{rule_in_force, tenor_in_force}
+use Rattle.steps.specs.Build.{refused_built}
 use Rattle.steps.specs.Finish.{Merged}
 use Rattle.steps.specs.Entries.{Entries, pairs_of, merged_entries}
 
@@ -25,6 +28,11 @@ pair ds fs = record { dates = ds; flags = fs }
 unfoldable pub accepted_built : Request → (count tries moved : ℕ) → Built
 accepted_built q count tries moved =
     record { number = 0; count = count; tries = tries; rule = rule_in_force q; tenor = tenor_in_force q; moved = moved }
+
+-- the record that was answered, or that of the refusal
+abbrev pub built_or_refused : Result Built Refusal → Built
+built_or_refused (Ok b) = b
+built_or_refused (Err r) = refused_built (number_of r)
 
 -- ---- the last steps on any lists: 1 where they do not belong together, 14 where the dates do not fit
 unfoldable pub lent_refusal : (work paid marks dates flags unadjusted : ℕ) → ℕ

@@ -1,16 +1,24 @@
 -- What is left of dates that were moved.
 -- Assumes nothing.
-use Rattle.std.specs.Prelude.{ℕ, List}
-use Rattle.refusal.specs.Answer.{Answer, given, refused}
+use Rattle.std.specs.Prelude.{ℕ, ◌<◌, ◌≡◌, List, length, get_or, Result, Ok, Err}
+use Rattle.refusal.specs.declared.Refusal.{Refusal}
+use Rattle.refusal.specs.Refusals.{number_of}
+use Rattle.refusal.specs.Answer.{Answer, given, refused, answered}
 use Rattle.steps.specs.Entries.{Pairs}
-use Rattle.finish.specs.declared.moving.Done.{Done}
-use Rattle.finish.specs.declared.moving.Done.TheVariants.{Whole, Refused}
 
-unfoldable pub done : Done → List ℕ → Answer (List ℕ)
-done Whole ds = given ds
-done (Refused n) ds = refused n
+-- what a call answers that moves dates
+abbrev pub Done : Type 0
+Done = Result (Unit {0}) Refusal
+
+-- and what it left, unless it refused
+unfoldable pub done : {A : Type 0} → Done → A → Answer A
+done (Ok u) left = given left
+done (Err r) left = refused (number_of r)
 
 -- the dates as generated, after the third Wednesdays, and the paid ones
-unfoldable pub paired : Done → (work paid : List ℕ) → Answer Pairs
-paired Whole work paid = given (record { paid = paid; unadjusted = work })
-paired (Refused n) work paid = refused n
+abbrev pub pairs : (work paid : List ℕ) → Pairs
+pairs work paid = record { paid = paid; unadjusted = work }
+
+-- a call that may answer so answers each day of the list as `f` says
+abbrev pub MovesAs : (ℕ → Result ℕ Refusal → Type 0) → (ℕ → Answer ℕ) → List ℕ → Type 0
+MovesAs post f days = (k : ℕ) → k < length days → (r : Result ℕ Refusal) → post (get_or days k 0) r → answered r ≡ f (get_or days k 0)

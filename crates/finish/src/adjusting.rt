@@ -5,26 +5,26 @@ ghost use Rattle.calendar.specs.Adjust.{adjusted};
 ghost use Rattle.steps.specs.Finish.{moved, on_last, on_middle, first_move, wednesdays, adjustments};
 ghost use Rattle.steps.specs.Entries.{pairs_of};
 ghost use Rattle.steps.specs.Inner.Sure.{Surely};
-ghost use Rattle.finish.specs.Moving.{done, paired};
+ghost use Rattle.finish.specs.Moving.{done, pairs};
 ghost use Rattle.finish.specs.Paying.{pay_between, PaidAlready, Narrowed, FirstPaid, LastPaid, LastKnown, LastKept, still_paid, pay_last, pay_middle};
 
-use crate::moving::Done;
 use crate::{Made, Paid, moving};
-use calendar::{Convention, Decided, search};
+use calendar::{Convention, search};
+use refusal::Refusal;
 use steps::{Move, Request, Rule, Sure, moves, rules, seeds};
 
 // All but the first and the last.
-fn move_middle(dates: &mut [u32], what: Move, mask: u8, closed: &[u32]) -> Done
+fn move_middle(dates: &mut [u32], what: Move, mask: u8, closed: &[u32]) -> Result<(), Refusal>
     ensures { closed_ok closed.now ≡ true → done result dates.new ≡ on_middle (moved mask closed.now what) dates.old }
 {
     let n = dates.len();
     if n < 2 {
-        return Done::Whole;
+        return Ok(());
     }
     moving::move_between(dates, 1, n - 1, what, mask, closed)
 }
 
-fn move_last(dates: &mut [u32], what: Move, mask: u8, closed: &[u32]) -> Done
+fn move_last(dates: &mut [u32], what: Move, mask: u8, closed: &[u32]) -> Result<(), Refusal>
     requires { 1 ≤ length dates.old }
     ensures { closed_ok closed.now ≡ true → done result dates.new ≡ on_last (moved mask closed.now what) dates.old }
 {
@@ -32,7 +32,7 @@ fn move_last(dates: &mut [u32], what: Move, mask: u8, closed: &[u32]) -> Done
     moving::move_between(dates, n - 1, n, what, mask, closed)
 }
 
-fn third_wednesdays(rule: Rule, mask: u8, closed: &[u32], dates: &mut [u32]) -> Done
+fn third_wednesdays(rule: Rule, mask: u8, closed: &[u32], dates: &mut [u32]) -> Result<(), Refusal>
     ensures { closed_ok closed.now ≡ true → done result dates.new ≡ wednesdays rule mask closed.now dates.old }
 {
     match rule {
@@ -43,7 +43,7 @@ fn third_wednesdays(rule: Rule, mask: u8, closed: &[u32], dates: &mut [u32]) -> 
             mask,
             closed,
         ),
-        _ => Done::Whole,
+        _ => Ok(()),
     }
 }
 
@@ -65,25 +65,13 @@ fn middle_end(n: usize) -> usize
     if n < 2 { 1 } else { n - 1 }
 }
 
-fn at_least(a: usize, b: usize) -> usize
-    ensures { result ≡ max a b }
-{
-    if a < b { b } else { a }
-}
-
-fn at_most(a: usize, b: usize) -> usize
-    ensures { result ≡ min a b }
-{
-    if a < b { a } else { b }
-}
-
 // The paid ones among the middle dates of n; where there are none, an empty part behind them all.
 fn narrow(known: Paid, n: usize) -> Paid
     ensures { Narrowed n known result }
 {
     let last = middle_end(n);
-    let from = at_least(known.from, 1);
-    let to = at_most(known.to, last);
+    let from = known.from.max(1);
+    let to = known.to.min(last);
     if from < to {
         return Paid { from, to };
     }
@@ -101,51 +89,43 @@ fn pay_unpaid(
     what: Move,
     mask: u8,
     closed: &[u32],
-) -> Done
+) -> Result<(), Refusal>
     requires in_bounds { (1 ≤ length work.now) × (length work.now ≡ length paid.old) }
     requires le_from { (1 ≤ known.from) × (known.from ≤ known.to) × (known.to ≤ 1 + (length work.now - 2)) }
     ensures { closed_ok closed.now ≡ true → PaidAlready (moved mask closed.now what) known.from known.to work.now paid.old → done result paid.new ≡ pay_between (moved mask closed.now what) 1 (1 + (length work.now - 2)) work.now paid.old }
 {
     let end = middle_end(work.len());
-    let early = moving::pay_some(work, paid, 1, known.from, what, mask, closed);
-    match early {
-        Done::Whole => moving::pay_some(work, paid, known.to, end, what, mask, closed),
-        Done::Refused(k) => Done::Refused(k),
-    }
+    moving::pay_some(work, paid, 1, known.from, what, mask, closed)?;
+    moving::pay_some(work, paid, known.to, end, what, mask, closed)
 }
 
 fn pay_middle(
-    q: Request,
+    q: &Request,
     closed: &[u32],
     seed: u32,
     known: Paid,
     work: &[u32],
     paid: &mut [u32],
-) -> Done
+) -> Result<(), Refusal>
     requires in_bounds { (1 ≤ length work.now) × (length work.now ≡ length paid.old) }
     requires le_from { (1 ≤ known.from) × (known.from ≤ known.to) × (known.to ≤ 1 + (length work.now - 2)) }
-    ensures { closed_ok closed.now ≡ true → PaidAlready (adjusted q.mask closed.now q.convention) known.from known.to work.now paid.old → done result paid.new ≡ pay_middle q closed.now seed work.now paid.old }
+    ensures { closed_ok closed.now ≡ true → PaidAlready (adjusted q.now.mask closed.now q.now.convention) known.from known.to work.now paid.old → done result paid.new ≡ pay_middle q.now closed.now seed work.now paid.old }
 {
     let convention = q.convention;
-    let end = seeds::seed_at_end(q.monthend, seed, q.mask, closed);
-    match end {
-        Decided::Yes => {
-            let what = moves::middle_move(true, convention);
-            moving::pay_between(work, paid, 1, middle_end(work.len()), what, q.mask, closed)
-        }
-        Decided::No => {
-            let way = search::convention_on(convention, q.mask, closed);
-            pay_unpaid(
-                work,
-                paid,
-                known,
-                moves::middle_move(false, way),
-                q.mask,
-                closed,
-            )
-        }
-        Decided::Refused(n) => Done::Refused(n),
+    let at_end = seeds::seed_at_end(q.monthend, seed, q.mask, closed)?;
+    if at_end {
+        let what = moves::middle_move(true, convention);
+        return moving::pay_between(work, paid, 1, middle_end(work.len()), what, q.mask, closed);
     }
+    let way = search::convention_on(convention, q.mask, closed);
+    pay_unpaid(
+        work,
+        paid,
+        known,
+        moves::middle_move(false, way),
+        q.mask,
+        closed,
+    )
 }
 
 // Whether the last of n dates, if it is moved so, stands among those that are paid by the convention.
@@ -178,28 +158,28 @@ fn is_last_known(what: Move, last: Sure, day: u32) -> bool
 
 // The last date, unless it is paid; where there is one date alone, what the first adjustment made of it.
 fn pay_last(
-    q: Request,
+    q: &Request,
     closed: &[u32],
     known: Paid,
     last: Sure,
     work: &[u32],
     paid: &mut [u32],
-) -> Done
+) -> Result<(), Refusal>
     requires { (1 ≤ length work.now) × (length work.now ≡ length paid.old) }
-    ensures { closed_ok closed.now ≡ true → LastKept (adjusted q.mask closed.now q.convention) known work.now paid.old → Surely (adjusted q.mask closed.now q.terminal) last → done result paid.new ≡ pay_last q closed.now work.now paid.old }
+    ensures { closed_ok closed.now ≡ true → LastKept (adjusted q.now.mask closed.now q.now.convention) known work.now paid.old → Surely (adjusted q.now.mask closed.now q.now.terminal) last → done result paid.new ≡ pay_last q.now closed.now work.now paid.old }
 {
     let n = work.len();
-    let what = moves::last_move(q);
+    let what = moves::last_move(*q);
     if n == 1 {
         return move_last(paid, what, q.mask, closed);
     }
     let convention = q.convention;
     if is_last_paid(convention, what, known, n) {
-        return Done::Whole;
+        return Ok(());
     }
     if is_last_known(what, last, work[n - 1]) {
         paid[n - 1] = last.paid;
-        return Done::Whole;
+        return Ok(());
     }
     moving::pay_at(work, paid, n - 1, what, q.mask, closed)
 }
@@ -215,69 +195,55 @@ fn is_first_paid(what: Move, known: Paid) -> bool
 }
 
 // The first date, unless it is paid.
-fn pay_first(q: Request, closed: &[u32], known: Paid, work: &[u32], paid: &mut [u32]) -> Done
+fn pay_first(
+    q: &Request,
+    closed: &[u32],
+    known: Paid,
+    work: &[u32],
+    paid: &mut [u32],
+) -> Result<(), Refusal>
     requires { (1 ≤ length work.now) × (length work.now ≡ length paid.old) }
-    ensures { closed_ok closed.now ≡ true → PaidAlready (adjusted q.mask closed.now q.convention) known.from known.to work.now paid.old → done result paid.new ≡ pay_between (moved q.mask closed.now (first_move q)) 0 1 work.now paid.old }
+    ensures { closed_ok closed.now ≡ true → PaidAlready (adjusted q.now.mask closed.now q.now.convention) known.from known.to work.now paid.old → done result paid.new ≡ pay_between (moved q.now.mask closed.now (first_move q.now)) 0 1 work.now paid.old }
 {
-    let what = moves::first_move(q);
+    let what = moves::first_move(*q);
     if is_first_paid(what, known) {
-        return Done::Whole;
+        return Ok(());
     }
     moving::pay_at(work, paid, 0, what, q.mask, closed)
 }
 
 // The paid dates of what was generated. Those that are known stay.
 fn pay_dates(
-    q: Request,
+    q: &Request,
     closed: &[u32],
     seed: u32,
     known: Paid,
     last: Sure,
     work: &[u32],
     paid: &mut [u32],
-) -> Done
+) -> Result<(), Refusal>
     requires { (1 ≤ length work.now) × (length work.now ≡ length paid.old) }
-    ensures { closed_ok closed.now ≡ true → PaidAlready (adjusted q.mask closed.now q.convention) known.from known.to work.now paid.old → Surely (adjusted q.mask closed.now q.terminal) last → done result paid.new ≡ adjustments q closed.now seed work.now }
+    ensures { closed_ok closed.now ≡ true → PaidAlready (adjusted q.now.mask closed.now q.now.convention) known.from known.to work.now paid.old → Surely (adjusted q.now.mask closed.now q.now.terminal) last → done result paid.new ≡ adjustments q.now closed.now seed work.now }
 {
     let among = narrow(known, work.len());
-    let first = pay_first(q, closed, known, work, paid);
-    if let Done::Refused(n) = first {
-        return Done::Refused(n);
-    }
-    let end = pay_last(q, closed, known, last, work, paid);
-    match end {
-        Done::Whole => pay_middle(q, closed, seed, among, work, paid),
-        Done::Refused(n) => Done::Refused(n),
-    }
+    pay_first(q, closed, known, work, paid)?;
+    pay_last(q, closed, known, last, work, paid)?;
+    pay_middle(q, closed, seed, among, work, paid)
 }
 
 // The two dates of each entry: third Wednesdays in the list of the dates, the paid dates beside them.
 pub(crate) fn pair_dates(
-    q: Request,
+    q: &Request,
     closed: &[u32],
     made: Made,
     work: &mut [u32],
     paid: &mut [u32],
-) -> Done
+) -> Result<(), Refusal>
     requires { (1 ≤ length work.old) × (length work.old ≡ length paid.old) }
-    ensures { closed_ok closed.now ≡ true → PaidAlready (adjusted q.mask closed.now q.convention) made.paid.from made.paid.to work.old paid.old → Surely (adjusted q.mask closed.now q.terminal) made.last → paired result work.new paid.new ≡ pairs_of q closed.now made.seed work.old }
+    ensures { closed_ok closed.now ≡ true → PaidAlready (adjusted q.now.mask closed.now q.now.convention) made.paid.from made.paid.to work.old paid.old → Surely (adjusted q.now.mask closed.now q.now.terminal) made.last → done result (pairs work.new paid.new) ≡ pairs_of q.now closed.now made.seed work.old }
 {
-    let rule = rules::rule_in_force(q);
-    let moved = third_wednesdays(rule, q.mask, closed, work);
-    match moved {
-        Done::Whole => {
-            let known = made.paid;
-            let last = made.last;
-            pay_dates(
-                q,
-                closed,
-                made.seed,
-                still_paid(rule, known),
-                last,
-                work,
-                paid,
-            )
-        }
-        Done::Refused(n) => Done::Refused(n),
-    }
+    let rule = rules::rule_in_force(*q);
+    third_wednesdays(rule, q.mask, closed, work)?;
+    let known = still_paid(rule, made.paid);
+    pay_dates(q, closed, made.seed, known, made.last, work, paid)
 }

@@ -2,16 +2,17 @@
 #![tactic(auto)]
 
 ghost use Rattle.std.specs.Prelude.{◌≡◌, true, ◌≤◌, ◌<◌, length};
+ghost use Rattle.refusal.specs.Answer.{answered, number};
 ghost use Rattle.calendar.specs.Open.{closed_ok};
 ghost use Rattle.calendar.specs.Adjust.{adjusted};
 ghost use Rattle.steps.specs.Entries.{Written};
 ghost use Rattle.steps.specs.Inner.Sure.{Surely};
-ghost use Rattle.finish.specs.Finishing.{accepted_built, Lent, lent_refusal, completed};
+ghost use Rattle.finish.specs.Finishing.{accepted_built, built_or_refused, Lent, lent_refusal, completed};
 ghost use Rattle.finish.specs.Ends.{CopiedOut};
 ghost use Rattle.finish.specs.Paying.{PaidAlready};
 
-use crate::merges::Left;
-use crate::moving::Done;
+use crate::merges::Part;
+use refusal::Refusal;
 use steps::{Built, Request, Sure, refused, rules};
 
 // Dates moved in place, or into another list.
@@ -40,21 +41,22 @@ pub struct Made {
     pub last: Sure,
 }
 
-fn accepted(q: Request, count: u32, tries: u32, moved: u32) -> Built
-    ensures { result ≡ accepted_built q count tries moved }
+fn accepted(q: &Request, count: u32, tries: u32, moved: u32) -> Built
+    ensures { result ≡ accepted_built q.now count tries moved }
 {
     Built {
         number: 0,
         count,
         tries,
-        rule: rules::rule_in_force(q),
-        tenor: rules::tenor_in_force(q),
+        rule: rules::rule_in_force(*q),
+        tenor: rules::tenor_in_force(*q),
         moved,
     }
 }
 
 // The schedule written out: the paid dates from a place up to another, the flags between them, and the dates as generated. Answered is
 // how far apart the two dates of an entry are at most.
+#[tactic(auto, unfolding(steps::specs::Build::over))]
 fn copy_out(
     from: usize,
     to: usize,
@@ -70,13 +72,13 @@ fn copy_out(
     ensures { CopiedOut from to result work.now paid.now marks.now dates.old flags.old unadjusted.old dates.new flags.new unadjusted.new }
 {
     let last = to - 1;
-    copies::copy_dates(&paid[from..to], dates);
-    copies::copy_flags(&marks[from..last], flags);
-    copies::copy_dates(&work[from..to], unadjusted);
+    copies::copy_over(&paid[from..to], dates);
+    copies::copy_over(&marks[from..last], flags);
+    copies::copy_over(&work[from..to], unadjusted);
     copies::farthest(&paid[from..to], &work[from..to])
 }
 
-// 1 where the lists do not belong together, 14 where the dates do not fit, else 0.
+// 1 where the lists do not belong together, 14 where the dates do not fit.
 fn lent_refusal(
     work: usize,
     paid: usize,
@@ -84,35 +86,66 @@ fn lent_refusal(
     dates: usize,
     flags: usize,
     unadjusted: usize,
-) -> u8
-    ensures { result ≡ lent_refusal work paid marks dates flags unadjusted }
+) -> Result<(), Refusal>
+    ensures { number (answered result) ≡ lent_refusal work paid marks dates flags unadjusted }
 {
     if dates != flags {
-        return refusal::UNEVEN;
+        return Err(Refusal::Uneven);
     }
     if dates != unadjusted {
-        return refusal::UNEVEN;
+        return Err(Refusal::Uneven);
     }
     if work != paid {
-        return refusal::UNEVEN;
+        return Err(Refusal::Uneven);
     }
     if work == 0 {
-        return refusal::UNEVEN;
+        return Err(Refusal::Uneven);
     }
     if work - 1 != marks {
-        return refusal::UNEVEN;
+        return Err(Refusal::Uneven);
     }
     if 4096 < work {
-        return refusal::ROOM;
+        return Err(Refusal::Room);
     }
     if dates < work {
-        return refusal::ROOM;
+        return Err(Refusal::Room);
     }
-    0
+    Ok(())
+}
+
+// The last steps, up to a refusal.
+fn finish_dates(
+    q: &Request,
+    closed: &[u32],
+    made: Made,
+    work: &mut [u32],
+    paid: &mut [u32],
+    marks: &mut [u8],
+    dates: &mut [u32],
+    flags: &mut [u8],
+    unadjusted: &mut [u32],
+) -> Result<Built, Refusal>
+    ensures { closed_ok closed.now ≡ true → PaidAlready (adjusted q.now.mask closed.now q.now.convention) made.paid.from made.paid.to work.old paid.old → Surely (adjusted q.now.mask closed.now q.now.terminal) made.last → Written q.now (completed q.now closed.now made.seed made.tries work.old marks.old (length paid.old) (length dates.old) (length flags.old) (length unadjusted.old)) (built_or_refused result) dates.old flags.old unadjusted.old dates.new flags.new unadjusted.new }
+{
+    lent_refusal(
+        work.len(),
+        paid.len(),
+        marks.len(),
+        dates.len(),
+        flags.len(),
+        unadjusted.len(),
+    )?;
+    adjusting::pair_dates(q, closed, made, work, paid)?;
+    let Part { from, to } = merges::merge(paid, marks)?;
+    merges::follow(work, from, to);
+    let moved = copy_out(from, to, work, paid, marks, dates, flags, unadjusted);
+    let count = to - from;
+    Ok(accepted(q, count as u32, made.tries, moved))
 }
 
 // From the generated dates, `work`, those of them that are paid, and the flags between them, `marks`, to what is answered and written
-// out. It has nine parameters: the lists go together three by three, and no struct can hold a list that is lent.
+// out. It has nine parameters: each list is a part that is cut for this call alone, and a struct of them would be made for it and taken
+// apart in it.
 pub fn complete(
     q: Request,
     closed: &[u32],
@@ -126,29 +159,10 @@ pub fn complete(
 ) -> Built
     ensures { closed_ok closed.now ≡ true → PaidAlready (adjusted q.mask closed.now q.convention) made.paid.from made.paid.to work.old paid.old → Surely (adjusted q.mask closed.now q.terminal) made.last → Written q (completed q closed.now made.seed made.tries work.old marks.old (length paid.old) (length dates.old) (length flags.old) (length unadjusted.old)) result dates.old flags.old unadjusted.old dates.new flags.new unadjusted.new }
 {
-    let number = lent_refusal(
-        work.len(),
-        paid.len(),
-        marks.len(),
-        dates.len(),
-        flags.len(),
-        unadjusted.len(),
-    );
-    if number != 0 {
-        return refused(number);
-    }
-    let moved = adjusting::pair_dates(q, closed, made, work, paid);
-    if let Done::Refused(n) = moved {
-        return refused(n);
-    }
-    let left = merges::merge(paid, marks);
-    match left {
-        Left::Refused(n) => refused(n),
-        Left::Part { from, to } => {
-            merges::follow(work, from, to);
-            let moved = copy_out(from, to, work, paid, marks, dates, flags, unadjusted);
-            let count = to - from;
-            accepted(q, count as u32, made.tries, moved)
-        }
+    match finish_dates(
+        &q, closed, made, work, paid, marks, dates, flags, unadjusted,
+    ) {
+        Ok(built) => built,
+        Err(refusal) => refused(refusal.number()),
     }
 }

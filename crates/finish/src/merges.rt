@@ -3,20 +3,14 @@ ghost use Rattle.std.specs.Prelude.{◌≡◌, ◌+◌, ◌≤◌, ◌<◌, leng
 ghost use Rattle.finish.specs.Ends.{EndMerged, FrontMerged, Merges};
 ghost use Rattle.finish.specs.Following.{follow_end, follow_front};
 
+use refusal::Refusal;
 use steps::flags::same_flag;
 
-// Where the list starts after the merge at the front.
-#[derive(Drop)]
-enum Start {
-    At(usize),
-    Refused(u8),
-}
-
 // What is left after both merges: the dates from a place up to another, and the flags between them.
-#[derive(Drop)]
-pub(crate) enum Left {
-    Part { from: usize, to: usize },
-    Refused(u8),
+#[derive(Clone, Copy)]
+pub(crate) struct Part {
+    pub from: usize,
+    pub to: usize,
 }
 
 // The last date takes the place of one that is not before it. Answers how many dates are left.
@@ -42,38 +36,35 @@ fn merge_end(dates: &mut [u32], flags: &mut [u8]) -> usize
 }
 
 // The first date takes the place of one that is not after it. Answers where the list then starts, or refusal 15.
-fn merge_front(dates: &mut [u32], flags: &mut [u8]) -> Start
+fn merge_front(dates: &mut [u32], flags: &mut [u8]) -> Result<usize, Refusal>
     requires { length dates.old ≡ length flags.old + 1 }
     ensures { FrontMerged dates.old flags.old result dates.new flags.new }
 {
     if dates.len() < 2 {
-        return Start::At(0);
+        return Ok(0);
     }
     let first = dates[0];
     let next = dates[1];
     if first < next {
-        return Start::At(0);
+        return Ok(0);
     }
     if dates.len() < 3 {
-        return Start::Refused(refusal::COLLAPSED);
+        return Err(Refusal::Collapsed);
     }
     flags[1] = same_flag(next, first);
     dates[1] = first;
-    Start::At(1)
+    Ok(1)
 }
 
 // The merge at the end, then the one at the front.
-pub(crate) fn merge(dates: &mut [u32], flags: &mut [u8]) -> Left
+pub(crate) fn merge(dates: &mut [u32], flags: &mut [u8]) -> Result<Part, Refusal>
     requires { length dates.old ≡ length flags.old + 1 }
     ensures { Merges dates.old flags.old result dates.new flags.new }
 {
     let to = merge_end(dates, flags);
     let last = to - 1;
-    let start = merge_front(&mut dates[..to], &mut flags[..last]);
-    match start {
-        Start::Refused(n) => Left::Refused(n),
-        Start::At(from) => Left::Part { from, to },
-    }
+    let from = merge_front(&mut dates[..to], &mut flags[..last])?;
+    Ok(Part { from, to })
 }
 
 // Where the merge at the end took a date away, what stands beside the last date takes its place.

@@ -1,27 +1,21 @@
 // Dates moved one after the other, in place or into another list. The first that can't be moved refuses.
-ghost use Rattle.std.specs.Prelude.{◌≡◌, true, ◌+◌, ◌≤◌, ◌<◌, length};
-ghost use Rattle.date.specs.Date.{dated};
+ghost use Rattle.std.specs.Prelude.{◌≡◌, ℕ, true, ◌+◌, ◌≤◌, ◌<◌, length};
+ghost use Rattle.refusal.specs.Answer.{Answer, answered};
 ghost use Rattle.calendar.specs.Open.{closed_ok};
-ghost use Rattle.steps.specs.declared.Move.TheVariants.{Adjust};
 ghost use Rattle.steps.specs.Finish.{moved, each, between};
-ghost use Rattle.finish.specs.Moving.{done};
+ghost use Rattle.finish.specs.Moving.{done, MovesAs};
 ghost use Rattle.finish.specs.Paying.{pay_between};
 
 use calendar::moves::date_of;
-use calendar::{Convention, Moved, search};
-use date::Dated;
+use calendar::search;
+use date::Date;
+use refusal::Refusal;
 use steps::{Move, moves};
-
-#[derive(Drop)]
-pub(crate) enum Done {
-    Whole,
-    Refused(u8),
-}
 
 // A third Wednesday is asked for by itself, so that the compiler expands it in the loop, as it does not expand all that a date may become; so is
 // an adjustment, which most single dates want.
-fn moved(day: u32, what: Move, mask: u8, closed: &[u32]) -> Dated
-    ensures { closed_ok closed.now ≡ true → dated result ≡ moved mask closed.now what day }
+fn moved(day: u32, what: Move, mask: u8, closed: &[u32]) -> Result<Date, Refusal>
+    ensures { closed_ok closed.now ≡ true → answered result ≡ moved mask closed.now what day }
 {
     match what {
         Move::ThirdWednesdays => moves::third_wednesday(day),
@@ -30,23 +24,13 @@ fn moved(day: u32, what: Move, mask: u8, closed: &[u32]) -> Dated
     }
 }
 
-pub(crate) fn move_all(s: &mut [u32], what: Move, mask: u8, closed: &[u32]) -> Done
+pub(crate) fn move_all(s: &mut [u32], what: Move, mask: u8, closed: &[u32]) -> Result<(), Refusal>
     ensures { closed_ok closed.now ≡ true → done result s.new ≡ each (moved mask closed.now what) s.old }
 {
-    let mut i = 0;
-    while i < s.len() {
-        let next = moved(s[i], what, mask, closed);
-        match next {
-            Dated::Refused(n) => {
-                return Done::Refused(n);
-            }
-            Dated::Day(d) => {
-                s[i] = d.day;
-                i += 1;
-            }
-        }
+    for i in 0..s.len() {
+        s[i] = moved(s[i], what, mask, closed)?.day;
     }
-    Done::Whole
+    Ok(())
 }
 
 // The dates from place a up to place b.
@@ -57,69 +41,49 @@ pub(crate) fn move_between(
     what: Move,
     mask: u8,
     closed: &[u32],
-) -> Done
+) -> Result<(), Refusal>
     requires { (a ≤ b) × (b ≤ length s.old) }
     ensures { closed_ok closed.now ≡ true → done result s.new ≡ between (moved mask closed.now what) a b s.old }
 {
     move_all(&mut s[a..b], what, mask, closed)
 }
 
-// The dates of one list moved into another one by one, each by a look at what moves it.
-fn pay_all(work: &[u32], paid: &mut [u32], what: Move, mask: u8, closed: &[u32]) -> Done
-    requires { length work.now ≡ length paid.old }
-    ensures { closed_ok closed.now ≡ true → done result paid.new ≡ each (moved mask closed.now what) work.now }
-{
-    let mut i = 0;
-    while i < work.len() {
-        let next = moves::moved(work[i], what, mask, closed);
-        match next {
-            Dated::Refused(n) => {
-                return Done::Refused(n);
-            }
-            Dated::Day(d) => {
-                paid[i] = d.day;
-                i += 1;
-            }
-        }
-    }
-    Done::Whole
-}
-
-// The dates of one list adjusted into another: what becomes of most dates, asked of the adjustment itself.
-fn adjust_all(
+// What becomes of each date of one list, put into another.
+fn pay_each<F: Fn(u32) -> Result<Date, Refusal>>(
     work: &[u32],
     paid: &mut [u32],
-    convention: Convention,
-    mask: u8,
-    closed: &[u32],
-) -> Done
-    requires { length work.now ≡ length paid.old }
-    ensures { closed_ok closed.now ≡ true → done result paid.new ≡ each (moved mask closed.now (Adjust convention)) work.now }
+    to: F,
+) -> Result<(), Refusal>
+    requires even { length work.now ≡ length paid.old }
+    requires calls { F.IsAlwaysCallable to }
+    ensures { (f : ℕ → Answer ℕ) → MovesAs (F.post to) f work.now → done result paid.new ≡ each f work.now }
 {
-    let mut i = 0;
-    while i < work.len() {
-        let next = search::adjust(work[i], convention, mask, closed);
-        match next {
-            Moved::Refused(n) => {
-                return Done::Refused(n);
-            }
-            Moved::Day { date, days } => {
-                paid[i] = date.day;
-                i += 1;
-            }
-        }
+    for (i, day) in work.iter().enumerate() {
+        paid[i] = to(*day)?.day;
     }
-    Done::Whole
+    Ok(())
 }
 
-// The dates of one list moved into another.
-fn pay_part(work: &[u32], paid: &mut [u32], what: Move, mask: u8, closed: &[u32]) -> Done
+// The dates of one list moved into another. An adjustment, which becomes of most dates, is asked for by itself.
+fn pay_part(
+    work: &[u32],
+    paid: &mut [u32],
+    what: Move,
+    mask: u8,
+    closed: &[u32],
+) -> Result<(), Refusal>
     requires { length work.now ≡ length paid.old }
     ensures { closed_ok closed.now ≡ true → done result paid.new ≡ each (moved mask closed.now what) work.now }
 {
     match what {
-        Move::Adjust(convention) => adjust_all(work, paid, convention, mask, closed),
-        _ => pay_all(work, paid, what, mask, closed),
+        Move::Adjust(convention) => {
+            pay_each(
+                work,
+                paid,
+                |day| moved(day, Move::Adjust(convention), mask, closed),
+            )
+        }
+        _ => pay_each(work, paid, |day| moves::moved(day, what, mask, closed)),
     }
 }
 
@@ -132,7 +96,7 @@ pub(crate) fn pay_between(
     what: Move,
     mask: u8,
     closed: &[u32],
-) -> Done
+) -> Result<(), Refusal>
     requires { (a ≤ b) × (b ≤ length work.now) × (length work.now ≡ length paid.old) }
     ensures { closed_ok closed.now ≡ true → done result paid.new ≡ pay_between (moved mask closed.now what) a b work.now paid.old }
 {
@@ -148,12 +112,12 @@ pub(crate) fn pay_some(
     what: Move,
     mask: u8,
     closed: &[u32],
-) -> Done
+) -> Result<(), Refusal>
     requires { (a ≤ b) × (b ≤ length work.now) × (length work.now ≡ length paid.old) }
     ensures { closed_ok closed.now ≡ true → done result paid.new ≡ pay_between (moved mask closed.now what) a b work.now paid.old }
 {
     if a == b {
-        return Done::Whole;
+        return Ok(());
     }
     pay_between(work, paid, a, b, what, mask, closed)
 }
@@ -166,16 +130,10 @@ pub(crate) fn pay_at(
     what: Move,
     mask: u8,
     closed: &[u32],
-) -> Done
+) -> Result<(), Refusal>
     requires { (at < length work.now) × (length work.now ≡ length paid.old) }
     ensures { closed_ok closed.now ≡ true → done result paid.new ≡ pay_between (moved mask closed.now what) at (at + 1) work.now paid.old }
 {
-    let next = moved(work[at], what, mask, closed);
-    match next {
-        Dated::Refused(n) => Done::Refused(n),
-        Dated::Day(d) => {
-            paid[at] = d.day;
-            Done::Whole
-        }
-    }
+    paid[at] = moved(work[at], what, mask, closed)?.day;
+    Ok(())
 }

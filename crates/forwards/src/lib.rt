@@ -8,17 +8,16 @@ ghost use Rattle.working.specs.Turning.{Begins};
 ghost use Rattle.opening.specs.Opening.{opening};
 ghost use Rattle.working.specs.Making.{Checked, Blank, Makes};
 
-use opening::Opened;
+use refusal::Refusal;
 use steps::{Request, seeds};
-use working::walks::Walked;
-use working::{Adjusting, Begin, Course, Generated, Round, candidates, walks};
+use working::{Adjusting, Begin, Course, Piece, Round, candidates, walks};
 
 // The next-to-last date and the last.
 mod closing;
 
 // The loop, and what is left after it.
 fn forward_from(
-    q: Request,
+    q: &Request,
     closed: &[u32],
     room: usize,
     begin: Begin,
@@ -26,30 +25,25 @@ fn forward_from(
     work: &mut [u32],
     paid: &mut [u32],
     marks: &mut [u8],
-) -> Generated
-    ensures { Makes (Checked q closed.now × Begins (adjusted q.mask closed.now q.convention) closed.now room begin (working work.old marks.old) paid.old) q closed.now room (forward_from q closed.now room (opening (working work.old marks.old) (begin.n, day))) result (working work.new marks.new) paid.new }
+) -> Result<Piece, Refusal>
+    ensures { Makes (Checked q.now closed.now × Begins (adjusted q.now.mask closed.now q.now.convention) closed.now room begin (working work.old marks.old) paid.old) q.now closed.now room (forward_from q.now closed.now room (opening (working work.old marks.old) begin.n day)) result (working work.new marks.new) paid.new }
 {
-    let tenor = q.tenor;
-    let convention = q.convention;
-    let pace = candidates::pace_of(tenor);
     let course = Course {
         back: false,
-        pace,
+        pace: candidates::pace_of(q.tenor),
         seed: seeds::seed_of(q.monthend, day),
         exit: seeds::anchor_or(q.penultimate.day, q.termination.day),
     };
     let adjusting = Adjusting {
-        convention,
+        convention: q.convention,
         mask: q.mask,
     };
-    let walked = walks::walk(course, room, adjusting, closed, begin, work, paid, marks);
-    match walked {
-        Walked::Refused(k) => Generated::Refused(k),
-        Walked::Ready { tip, tries } => {
-            let round = Round { tries, seed: day };
-            closing::forward_end(q, closed, room, tip, round, work, paid, marks)
-        }
-    }
+    let walked = walks::walk(course, room, adjusting, closed, begin, work, paid, marks)?;
+    let round = Round {
+        tries: walked.tries,
+        seed: day,
+    };
+    closing::forward_end(q, closed, room, walked.tip, round, work, paid, marks)
 }
 
 // The dates of a forward build.
@@ -60,14 +54,19 @@ pub fn forward(
     work: &mut [u32],
     paid: &mut [u32],
     marks: &mut [u8],
-) -> Generated
+) -> Result<Piece, Refusal>
     ensures { Makes (Blank q closed.now room (working work.old marks.old) paid.old) q closed.now room (forward q closed.now room) result (working work.new marks.new) paid.new }
 {
-    let opened = opening::open_forward(q, closed, room, work, marks);
-    match opened {
-        Opened::Refused(k) => Generated::Refused(k),
-        Opened::Ready { begin, seed } => {
-            forward_from(q, closed, room, begin, seed, work, paid, marks)
-        }
-    }
+    let q = &q;
+    let opened = opening::open_forward(*q, closed, room, work, marks)?;
+    forward_from(
+        q,
+        closed,
+        room,
+        opened.begin,
+        opened.seed,
+        work,
+        paid,
+        marks,
+    )
 }

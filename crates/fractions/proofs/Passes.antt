@@ -2,7 +2,7 @@
 -- Assumes nothing.
 use Prim.Native.Nat.{ℕ, suc, ◌+◌, ◌-◌, ◌≤◌, ◌<◌}
 use mathlib.Core.Path.{◌≡◌, refl, sym, ap, ◌∙◌}
-use mathlib.Core.Bool.{Bool, true, false, not, ◌&&◌, and-true, and-false, and_assoc}
+use mathlib.Core.Bool.{Bool, true, false, ◌&&◌, and-true, and-false, and_assoc}
 use mathlib.Core.List.{List, [], ◌∷◌}
 use native.Mathlib.Numerals.{add-one}
 use native.Mathlib.Nat.{add-sub_cancel}
@@ -11,7 +11,8 @@ use lib.Dec.{leb}
 use lib.ListN.{length, get_or, drop, drop_of_length-le}
 use lib.Seq.{drop-cons}
 use borrow.Author.Rules.{rules}
-use borrow.Author.Tests.{leb-true, not-true, not-false}
+use borrow.Author.Tests.{leb-true}
+use Rattle.std.specs.List.{list_all}
 use Rattle.refusal.specs.Answer.{given, refused, need, BOOK, REVERSED}
 use Rattle.refusal.specs.Laws.Answers.{fails, holds, both}
 use Rattle.date.specs.Date.{SPAN_FIRST, SPAN_LAST}
@@ -21,33 +22,11 @@ use Rattle.fractions.specs.Reports.{all_in, rises_from, rises, sum_of, sums_of, 
 use Rattle.fractions.specs.Laws.Span.{inside_test, early, late}
 use Rattle.fractions.specs.Laws.Ends.{between, last_from, last_at, last_le, sums_are}
 
--- ---- the dates in the span: what holds of those from place i on holds of all
-pub record InFrom (ds : List ℕ) (i : ℕ) : Type 0 where
-  pub same : all_in (drop i ds) ≡ all_in ds
-
-pub inside_start : (ds : List ℕ) → InFrom ds 0
-inside_start ds = record { same = refl }
-
-all_at : (ds : List ℕ) (i : ℕ) → i < length ds → all_in (drop i ds) ≡ (in_span (get_or ds i 0) && all_in (drop (suc i) ds))
+-- ---- the dates in the span
+pub each_inside : (ds : List ℕ) → list_all in_span ds ≡ all_in ds
 unfolding all_in
-all_at ds i h = rw (drop-cons ds i 0 h) refl
-
-module _ {ds : List ℕ} {i : ℕ} (g : InFrom ds i) where
-  pub inside_next : i < length ds → (b : Bool) → b ≡ in_span (get_or ds i 0) → not b ≡ false → InFrom ds (i + 1)
-  inside_next h b p q =
-      let e : (in_span (get_or ds i 0) && all_in (drop (suc i) ds)) ≡ all_in (drop (suc i) ds) = rw (sym p ∙ not-false b q) refl in
-      record { same = ap (λ (k : ℕ). all_in (drop k ds)) (add-one i) ∙ sym e ∙ sym (all_at ds i h) ∙ g.same }
-
-  pub inside_left : i < length ds → (b : Bool) → b ≡ in_span (get_or ds i 0) → not b ≡ true → false ≡ all_in ds
-  inside_left h b p q =
-      let e : (in_span (get_or ds i 0) && all_in (drop (suc i) ds)) ≡ false = rw (sym p ∙ not-true b q) refl in
-      sym e ∙ sym (all_at ds i h) ∙ g.same
-
-  pub inside_end : length ds ≤ i → true ≡ all_in ds
-  unfolding all_in
-  inside_end h = let e : all_in (drop i ds) ≡ true = rw (drop_of_length-le ds h) refl in sym e ∙ g.same
-
-pub ruleset insides = (inside_start, inside_next, inside_left, inside_end, rules)
+each_inside [] = refl
+each_inside (a ∷ ds) = ap (λ (b : Bool). in_span a && b) (each_inside ds)
 
 -- ---- the dates in order: what `keeps` says of those before place i, and what holds of the last of them and those that follow
 pub record Rising (ds : List ℕ) (keeps : Bool) (i : ℕ) : Type 0 where
@@ -121,10 +100,10 @@ unfolding report_of
 report_late [] some h = absurd (some refl)
 report_late (a ∷ ds) some h = fails BOOK _ _ (last_outside_lem a ds (rw (← last_at a ds) h))
 
-pub first_last : (ds : List ℕ) (t : Bool) → t ≡ rises ds → t ≡ true → (length ds ≡ 0 → ⊥) → get_or ds 0 0 ≤ get_or ds (length ds - 1) 0
+pub first_last : (ds : List ℕ) → rises ds ≡ true → get_or ds 0 0 ≤ get_or ds (length ds - 1) 0
 unfolding rises
-first_last [] t p q some = absurd (some refl)
-first_last (a ∷ ds) t p q some = rw (last_at a ds) (last_le a ds (sym p ∙ q))
+first_last [] p = omega arith
+first_last (a ∷ ds) p = rw (last_at a ds) (last_le a ds p)
 
 pub report_sums : (ds : List ℕ) (t : Bool) → t ≡ rises ds → t ≡ true → (length ds ≡ 0 → ⊥) → SPAN_FIRST ≤ get_or ds 0 0 → get_or ds (length ds - 1) 0 ≤ SPAN_LAST → (s : Sums) → s ≡ between (get_or ds 0 0) (get_or ds (length ds - 1) 0) → given s ≡ report_of ds
 unfolding report_of rises
@@ -134,12 +113,12 @@ report_sums (a ∷ ds) t p q some h i s e =
     let l = last_at a ds in
     holds BOOK _ _ _ (ends_inside a ds r h (rw (← l) i)) (holds REVERSED _ _ _ r (ap given (e ∙ ap (λ (n : ℕ). between a n) l ∙ sym (sums_are a ds (omega arith) r))))
 
-pub report_reversed : (ds : List ℕ) (t u : Bool) → t ≡ rises ds → t ≡ false → u ≡ all_in ds → u ≡ true → refused REVERSED ≡ report_of ds
+pub report_reversed : (ds : List ℕ) (t u : Bool) → t ≡ rises ds → t ≡ false → u ≡ list_all in_span ds → u ≡ true → refused REVERSED ≡ report_of ds
 unfolding report_of
-report_reversed ds t u p q v w = holds BOOK _ _ _ (sym v ∙ w) (fails REVERSED _ _ (sym p ∙ q))
+report_reversed ds t u p q v w = holds BOOK _ _ _ (sym (each_inside ds) ∙ sym v ∙ w) (fails REVERSED _ _ (sym p ∙ q))
 
-pub report_outside : (ds : List ℕ) (u : Bool) → u ≡ all_in ds → u ≡ false → refused BOOK ≡ report_of ds
+pub report_outside : (ds : List ℕ) (u : Bool) → u ≡ list_all in_span ds → u ≡ false → refused BOOK ≡ report_of ds
 unfolding report_of
-report_outside ds u v w = fails BOOK _ _ (sym v ∙ w)
+report_outside ds u v w = fails BOOK _ _ (sym (each_inside ds) ∙ sym v ∙ w)
 
 pub ruleset reports = (report_none, report_early, report_late, report_sums, report_reversed, report_outside, rules)

@@ -4,29 +4,26 @@
 use Rattle.std.specs.Prelude.{ℕ, ◌+◌, ◌-◌, ◌*◌, min, Bool, ◌&&◌, List, [], ◌∷◌, leb, pos, Float}
 use Rattle.std.specs.Float.{binary64}
 use Rattle.std.specs.Float.Ieee.{of_int, div}
-use Rattle.refusal.specs.Answer.{Answer, given, refused, need, then, BOOK, REVERSED}
+use Rattle.refusal.specs.Answer.{Answer, given, refused, need, then, at_place, BOOK, REVERSED}
 use Rattle.date.specs.Civil.{fields_of}
 use Rattle.date.specs.Date.{SPAN_FIRST, SPAN_LAST}
 use Rattle.fractions.specs.declared.Basis.{Basis}
 use Rattle.fractions.specs.declared.Basis.TheVariants.{Actual360, Actual365, Thirty360}
 use Rattle.fractions.specs.declared.Parts.{Parts}
-use Rattle.fractions.specs.declared.Parted.{Parted}
-use Rattle.fractions.specs.declared.Parted.TheVariants as parted-is
 use Rattle.fractions.specs.declared.Fraction.{Fraction}
 use Rattle.fractions.specs.declared.Fraction.TheVariants as fraction-is
 
--- ---- what each case of an answer says: its value, or the number of the refusal
-unfoldable pub parted : Parted → Answer Parts
-parted (parted-is.Parts p) = given p
-parted (parted-is.Refused n) = refused n
-
+-- ---- what each case of a fraction says: its value, or the number of the refusal
 unfoldable pub fraction : Fraction → Answer Float
 fraction (fraction-is.Of x) = given x
 fraction (fraction-is.Refused n) = refused n
 
--- the bases, in the request's order
-unfoldable pub bases : List Basis
+-- the bases, in the request's order: a basis's number is its place
+abbrev pub bases : List Basis
 bases = Actual360 ∷ Actual365 ∷ Thirty360 ∷ []
+
+abbrev pub basis_of : ℕ → Answer Basis
+basis_of = at_place bases
 
 -- ---- the parts of a period
 unfoldable pub in_span : ℕ → Bool

@@ -1,17 +1,11 @@
 -- Request L12, "A report over a schedule": the sums of the numerators over the periods of a list of paid dates. Period i is dates i and i + 1.
 -- Assumes nothing.
 use Rattle.std.specs.Prelude.{ℕ, ◌+◌, Bool, true, ◌&&◌, List, [], ◌∷◌, leb}
-use Rattle.refusal.specs.Answer.{Answer, given, refused, need, BOOK, REVERSED}
+use Rattle.refusal.specs.Answer.{Answer, given, need, BOOK, REVERSED}
 use Rattle.fractions.specs.declared.Basis.{Basis}
 use Rattle.fractions.specs.declared.Basis.TheVariants.{Actual360, Actual365, Thirty360}
 use Rattle.fractions.specs.declared.reports.Sums.{Sums}
-use Rattle.fractions.specs.declared.reports.Reported.{Reported}
-use Rattle.fractions.specs.declared.reports.Reported.TheVariants as reported-is
 use Rattle.fractions.specs.Fractions.{in_span, count}
-
-unfoldable pub reported : Reported → Answer Sums
-reported (reported-is.Sums s) = given s
-reported (reported-is.Refused n) = refused n
 
 -- every date lies in the span
 unfoldable pub all_in : List ℕ → Bool

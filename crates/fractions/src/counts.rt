@@ -7,10 +7,11 @@ use crate::Basis;
 use date::{civil, span};
 
 // From 1800 to 2399: paid dates may lie beyond the book.
+#[tactic(auto, unfolding(crate::specs::Fractions::in_span, date::specs::Date::within_span, refusal::specs::Answer::need))]
 pub(crate) fn in_span(n: u32) -> bool
     ensures { result ≡ in_span n }
 {
-    span::FIRST <= n && n <= span::LAST
+    span::within(n as u64).is_ok()
 }
 
 // The 31st counts as the 30th.
@@ -21,6 +22,7 @@ fn at_most_30(day: u32) -> u32
 }
 
 // Where a day stands among days of months of 30.
+#[tactic(auto, using(date::specs::Laws::Moves::year_at_lem, crate::proofs::Ways::month_few, crate::proofs::Ways::place_is))]
 fn place_of(n: u32) -> u32
     requires { n ≤ SPAN_LAST }
     ensures { result ≡ place n }
@@ -30,6 +32,7 @@ fn place_of(n: u32) -> u32
 }
 
 // The days of 30E/360.
+#[tactic(auto, using(crate::proofs::Ways::places))]
 pub(crate) fn thirties(a: u32, b: u32) -> u32
     requires { (1 ≤ a) × (a ≤ b) × (b ≤ SPAN_LAST) }
     ensures { result ≡ place b - place a }
@@ -38,6 +41,7 @@ pub(crate) fn thirties(a: u32, b: u32) -> u32
     to - place_of(a)
 }
 
+#[tactic(auto, unfolding(crate::specs::Fractions::count))]
 pub(crate) fn count_of(basis: Basis, a: u32, b: u32) -> u32
     requires { (1 ≤ a) × (a ≤ b) × (b ≤ SPAN_LAST) }
     ensures { result ≡ count basis a b }

@@ -2,41 +2,55 @@
 #![tactic(auto)]
 
 ghost use Rattle.std.specs.Prelude.{◌≡◌};
-ghost use Rattle.fractions.specs.Fractions.{parted, fraction, under, quotient, parts_of, fraction_of};
+ghost use Rattle.refusal.specs.Answer.{answered};
+ghost use Rattle.fractions.specs.Fractions.{fraction, basis_of, under, quotient, parts_of, fraction_of};
 
 use date::Date;
+use refusal::Refusal;
 
 // The days of a period.
 mod counts;
 // Sums over the periods of a list of dates.
 pub mod reports;
 
-#[derive(Clone, Copy)]
+#[derive(Clone, Copy, Debug, PartialEq, Eq)]
 pub enum Basis {
     Actual360,
     Actual365,
     Thirty360,
 }
 
+// Bases by their numbers, which are their places in the request's list.
+impl TryFrom<u8> for Basis {
+    type Error = Refusal;
+
+    ghost try_from_gives = { λ n r. answered r ≡ basis_of n };
+
+    fn try_from(number: u8) -> Result<Basis, Refusal> {
+        match number {
+            0 => Ok(Basis::Actual360),
+            1 => Ok(Basis::Actual365),
+            2 => Ok(Basis::Thirty360),
+            _ => Err(Refusal::Request),
+        }
+    }
+}
+
 // Not reduced, so that numerators of one basis can be summed.
-#[derive(Clone, Copy)]
+#[derive(Clone, Copy, Debug, PartialEq, Eq)]
 pub struct Parts {
     pub numerator: u32,
     pub denominator: u32,
 }
 
-#[derive(Clone, Copy)]
-pub enum Parted {
-    Parts(Parts),
-    Refused(u8),
-}
-
+// A fraction, or the number of a refusal: document 01 names this form ("Which form belongs where").
 #[derive(Clone, Copy)]
 pub enum Fraction {
     Of(f64),
     Refused(u8),
 }
 
+#[tactic(auto, unfolding(crate::specs::Fractions::under))]
 fn under_of(basis: Basis) -> u32
     ensures { result ≡ under basis }
 {
@@ -48,29 +62,28 @@ fn under_of(basis: Basis) -> u32
 }
 
 // Numerator and denominator of a period.
-pub fn year_parts(basis: Basis, start: Date, end: Date) -> Parted
-    ensures { parted result ≡ parts_of basis start.day end.day }
+#[tactic(auto, unfolding(crate::specs::Fractions::parts_of, crate::specs::Fractions::in_span, refusal::specs::Answer::need))]
+pub fn year_parts(basis: Basis, start: Date, end: Date) -> Result<Parts, Refusal>
+    ensures { answered result ≡ parts_of basis start end }
 {
     let a = start.day;
     let b = end.day;
-    if !counts::in_span(a) {
-        return Parted::Refused(refusal::BOOK);
-    }
-    if !counts::in_span(b) {
-        return Parted::Refused(refusal::BOOK);
+    if !counts::in_span(a) || !counts::in_span(b) {
+        return Err(Refusal::Book);
     }
     if b < a {
-        return Parted::Refused(refusal::REVERSED);
+        return Err(Refusal::Reversed);
     }
     let days = counts::count_of(basis, a, b);
     let year = under_of(basis);
-    Parted::Parts(Parts {
+    Ok(Parts {
         numerator: days,
         denominator: year,
     })
 }
 
 // One division: each of the two numbers is a float exactly.
+#[tactic(auto, unfolding(crate::specs::Fractions::quotient))]
 fn quotient_of(p: Parts) -> f64
     ensures { result ≡ quotient p }
 {
@@ -78,12 +91,12 @@ fn quotient_of(p: Parts) -> f64
 }
 
 // The fraction of a year that a period is.
+#[tactic(auto, unfolding(crate::specs::Fractions::fraction, crate::specs::Fractions::fraction_of, refusal::specs::Answer::then))]
 pub fn year_fraction(basis: Basis, start: Date, end: Date) -> Fraction
-    ensures { fraction result ≡ fraction_of basis start.day end.day }
+    ensures { fraction result ≡ fraction_of basis start end }
 {
-    let parts = year_parts(basis, start, end);
-    match parts {
-        Parted::Parts(p) => Fraction::Of(quotient_of(p)),
-        Parted::Refused(n) => Fraction::Refused(n),
+    match year_parts(basis, start, end) {
+        Ok(p) => Fraction::Of(quotient_of(p)),
+        Err(r) => Fraction::Refused(r.number()),
     }
 }

@@ -6,24 +6,23 @@ ghost use Rattle.std.specs.Prelude.{◌≡◌, length};
 use std::io;
 use std::io::Write;
 
-// So many bytes of standard input are read, and none after them. Here and below the `ensures` gives only the length, which lending
-// an array as a slice needs.
-fn input_room() -> [u8; 65536]
-    ensures { 65536 ≡ length result }
-{
-    [0; 65536]
-}
+// So many bytes of standard input are read, and none after them.
+const INPUT: usize = 65536;
 
-// Room for every text (`reply::whole`).
-fn text_room() -> [u8; 106519]
-    ensures { 106519 ≡ length result }
+// Every text has room in so many (`reply::whole`).
+const TEXT: usize = 106519;
+
+// Room for so many bytes. The `ensures` gives only the length, which lending an array as a slice needs. Three programs have it: so weak
+// a contract lets no wrong body through, so that a shared one could have no edit that is refused.
+fn room<const N: usize>() -> [u8; N]
+    ensures { N ≡ length result }
 {
-    [0; 106519]
+    [0; N]
 }
 
 fn main(rt: HostRuntime) -> io::Result<()> {
-    let mut input = input_room();
-    let mut text = text_room();
+    let mut input = room::<INPUT>();
+    let mut text = room::<TEXT>();
     let got = reading::fill(&mut rt.reader(), &mut input)?;
     let count = reply::whole(&input[..got], &mut text);
     // Where nobody takes the text, as at a closed pipe, the program ends in silence.

@@ -13,7 +13,7 @@ use mir.Val.{Fits}
 use mir.Syntax.{w32}
 use borrow.Author.Rules.{rules}
 use borrow.Author.Tests.{eqb-true}
-use Rattle.holidays.specs.declared.days.Added.TheVariants as added_is
+use Rattle.std.specs.Prelude.{None, Some}
 use Rattle.holidays.specs.Import.{insert, add}
 use Rattle.holidays.specs.Laws.Listed.{◌∈◌}
 use Rattle.holidays.specs.Laws.Places.{insert_old, insert_new, add_next, add_longer}
@@ -147,7 +147,7 @@ module _ {map₀ : List ℕ} {first past limit : ℕ} {map : List ℕ} {o n : �
       new_length : length (insert (FIRST + o) (days_of map)) ≡ suc n
       new_length = insert_new (FIRST + o) (days_of map) (bit_out map o (sym b ∙ e)) ∙ ap suc (sym g.count)
 
-      pub adding_full : {map' : List ℕ} → n ≡ limit → Adds map₀ first past limit added_is.Full map'
+      pub adding_full : {map' : List ℕ} → n ≡ limit → Adds map₀ first past limit None map'
       unfolding IsAdded
       adding_full f =
           let q : past - (o + 1) + (o + 1 - first) ≡ past - first = omega (arith, g.from) in
@@ -169,7 +169,7 @@ module _ {map₀ : List ℕ} {first past limit : ℕ} {map : List ℕ} {o n : �
             long = ap length q ∙ length-set map (o / 32) _ ∙ g.long;
           }
 
-  pub adding_done : past ≤ o → Adds map₀ first past limit (added_is.Days n) map
+  pub adding_done : past ≤ o → Adds map₀ first past limit (Some n) map
   unfolding IsAdded
   adding_done h =
       let q : o - first ≡ past - first = omega (arith, g.to) in

@@ -11,16 +11,16 @@ use lib.ListN.{length, drop, get_or, drop_of_length-le, length-drop}
 use lib.Seq.{drop-cons, drop-drop}
 use borrow.Author.Rules.{rules}
 use borrow.Author.Tests.{eq-eqb, ne_eqb}
-use Rattle.holidays.specs.declared.lines.Step.TheVariants.{End, Byte}
+use Rattle.std.specs.Prelude.{None, Some}
 use Rattle.holidays.specs.Words.{Bytes, LF, CR}
 use Rattle.holidays.specs.Lines.{starts_with}
 use Rattle.holidays.specs.Inner.Cut.{Cut, cut_byte, cut_start, cut_from, folds}
 use Rattle.holidays.specs.Inner.Along.{cut_at, ahead, Before, IsStepped, Steps, Skipping, Clears, Skipped}
 
 -- ---- one byte of a cut: only line feeds, and the byte behind each, count for what lies behind
-cut_byte_lem : (n b : ℕ) (s : Bytes) → eqb b LF ≡ false → ((cut_from false n (b ∷ s)).rest ≡ (cut_from false n s).rest) × ((cut_from false n (b ∷ s)).number ≡ (cut_from false n s).number)
+cut_other : (n b : ℕ) (s : Bytes) → eqb b LF ≡ false → ((cut_from false n (b ∷ s)).rest ≡ (cut_from false n s).rest) × ((cut_from false n (b ∷ s)).number ≡ (cut_from false n s).number)
 unfolding cut_from cut_byte
-cut_byte_lem n b s h = rw h (go (eqb b CR && starts_with LF s))
+cut_other n b s h = rw h (go (eqb b CR && starts_with LF s))
   where
     go : (y : Bool) → ((cut_byte false y b (cut_from true (suc n) s) (cut_from false n s)).rest ≡ (cut_from false n s).rest) × ((cut_byte false y b (cut_from true (suc n) s) (cut_from false n s)).number ≡ (cut_from false n s).number)
     go true = (refl, refl)
@@ -51,7 +51,7 @@ module _ {file : Bytes} {at line i n : ℕ} (k : Skipping file at line i n) wher
 
   pub skip_byte : i < length file → (get_or file i 0 ≡ 10 → ⊥) → Skipping file at line (i + 1) n
   skip_byte h o =
-      let c = cut_byte_lem n (get_or file i 0) (drop (i + 1) file) (ne_eqb _ _ o) in
+      let c = cut_other n (get_or file i 0) (drop (i + 1) file) (ne_eqb _ _ o) in
       let b = k.before in
       record {
         rest = sym c.0 ∙ ap (λ (s : Bytes). (cut_from false n s).rest) (sym (front h)) ∙ k.rest;
@@ -161,7 +161,7 @@ module _ {file : Bytes} {at line i n : ℕ} (k : Nexting file at line i n) where
   first : i < length file → drop i file ≡ get_or file i 0 ∷ drop (i + 1) file
   first h = drop-cons file i 0 h ∙ ap (λ (j : ℕ). get_or file i 0 ∷ drop j file) (sym (add-one i))
 
-  pub next_over : length file ≤ i → Steps file at line End
+  pub next_over : length file ≤ i → Steps file at line None
   unfolding cut_from IsStepped
   next_over h =
       let d : drop i file ≡ [] = drop_of_length-le file h in
@@ -180,14 +180,14 @@ module _ {file : Bytes} {at line i n : ℕ} (k : Nexting file at line i n) where
           later = omega (arith, k.later);
         }
 
-    pub next_end : r ≡ false → Steps file at line End
+    pub next_end : r ≡ false → Steps file at line None
     unfolding IsStepped
     next_end t =
         record { so = ap (λ (c : Cut). c.bytes) (sym k.same ∙ ap (cut_from false n) (first h) ∙ cut_end n (get_or file i 0) (drop (i + 1) file) (eq-eqb _ _ o) (sym e ∙ t)) }
 
   -- any other byte
   module _ (h : i < length file) (o : get_or file i 0 ≡ 10 → ⊥) where
-    plain : (eqb (get_or file i 0) CR && starts_with LF (drop (i + 1) file)) ≡ false → Steps file at line (Byte (get_or file i 0) (i + 1) n)
+    plain : (eqb (get_or file i 0) CR && starts_with LF (drop (i + 1) file)) ≡ false → Steps file at line (Some (get_or file i 0, record { at = i + 1; line = n }))
     unfolding IsStepped
     plain e =
         let b = k.before in
@@ -206,11 +206,11 @@ module _ {file : Bytes} {at line i n : ℕ} (k : Nexting file at line i n) where
           };
         }
 
-    pub next_byte : (get_or file i 0 ≡ 13 → ⊥) → Steps file at line (Byte (get_or file i 0) (i + 1) n)
+    pub next_byte : (get_or file i 0 ≡ 13 → ⊥) → Steps file at line (Some (get_or file i 0, record { at = i + 1; line = n }))
     next_byte g = plain (ap (λ (x : Bool). x && starts_with LF (drop (i + 1) file)) (ne_eqb _ _ g))
 
     module _ {r : Bool} (e : r ≡ starts_with 10 (drop (i + 1) file)) where
-      pub next_lone : r ≡ false → Steps file at line (Byte (get_or file i 0) (i + 1) n)
+      pub next_lone : r ≡ false → Steps file at line (Some (get_or file i 0, record { at = i + 1; line = n }))
       next_lone f = plain (go (eqb (get_or file i 0) CR))
         where
           go : (x : Bool) → (x && starts_with LF (drop (i + 1) file)) ≡ false

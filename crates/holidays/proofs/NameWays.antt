@@ -8,14 +8,15 @@ use native.Mathlib.Omega.{arith}
 use lib.ListN.{length, get_or}
 use borrow.Author.Count.{below_more}
 use borrow.Author.Rules.{rules}
+use Rattle.std.specs.Prelude.{Some}
 use Rattle.holidays.specs.declared.words.Piece.{Piece}
 use Rattle.holidays.specs.Words.{Bytes, pick}
 use Rattle.holidays.specs.Content.{turned}
 use Rattle.holidays.specs.Inner.Along.{Before, ahead}
 use Rattle.holidays.specs.Inner.Letters.{letter, pack}
 use Rattle.holidays.specs.Inner.Others.{Spelt, Stands}
-use Rattle.holidays.specs.Inner.Pieces.{Pieced, is_stop, by_stop, piece, ReadsPiece}
-use Rattle.holidays.proofs.UsualWays.{Read, read_start, read_more}
+use Rattle.holidays.specs.Inner.Pieces.{Pieced, is_stop, by_stop, piece, mark_number, ReadsPiece}
+use Rattle.holidays.proofs.UsualWays.{High, word_read}
 
 -- ---- the comparison
 pub record Standing (file : Bytes) (at : ℕ) (word : Bytes) (k : ℕ) : Type 0 where
@@ -39,38 +40,12 @@ standing_within file word at k l w h = omega arith
 
 pub ruleset stand_ways = (stands_not, standing_none, standing_more, stands_so, standing_within, rules)
 
--- ---- a word along the line
-abbrev High : Bytes → Type 0
-High [] = Unit {0}
-High (c ∷ s) = (13 < c) × High s
-
-read_on : (file : Bytes) (at line : ℕ) (word : Bytes) (k : ℕ) (done : Bytes) → High word → Read file at line k done → at + k + length word ≤ length file → ((j : ℕ) → j < length word → get_or file (at + k + j) 0 ≡ get_or word j 0) → Read file at line (k + length word) (done ++ word)
-read_on file at line [] k done g r w h =
-    let e : k ≡ k + 0 = omega arith in
-    subst (λ (i : ℕ). Read file at line i (done ++ [])) e (subst (λ (s : Bytes). Read file at line k s) (sym (append-nil done)) r)
-read_on file at line (c ∷ word) k done g r w h =
-    let e : k + 1 + length word ≡ k + suc (length word) = omega arith in
-    let z : at + k + 0 ≡ at + k = omega arith in
-    let one = read_more file at line k c r (omega arith) (ap (λ (i : ℕ). get_or file i 0) (sym z) ∙ h 0 (omega arith)) g.0 in
-    let rest = read_on file at line word (k + 1) (done ++ (c ∷ [])) g.1 one (omega arith) (λ j i. ap (λ (m : ℕ). get_or file m 0) (shift j) ∙ h (suc j) (omega arith)) in
-    subst (λ (i : ℕ). Read file at line i (done ++ (c ∷ word))) e (subst (λ (s : Bytes). Read file at line (k + 1 + length word) s) (append_assoc done (c ∷ []) word) rest)
-  where
-    shift : (j : ℕ) → at + (k + 1) + j ≡ at + k + suc j
-    shift j = omega arith
-
+-- ---- a name and its mark at once
 module _ (file : Bytes) (at line : ℕ) (b : Before file at line) (word : Bytes) (high : High word) where
-  word_read : Spelt file at word → Read file at line (length word) word
-  word_read s =
-      let e : 0 + length word ≡ length word = omega arith in
-      subst (λ (i : ℕ). Read file at line i word) e (read_on file at line word 0 [] high (read_start b) (omega (arith, s.within)) (λ j i. ap (λ (m : ℕ). get_or file m 0) (plus j) ∙ s.bytes j i))
-    where
-      plus : (j : ℕ) → at + 0 + j ≡ at + j
-      plus j = omega arith
-
-  -- a name and its mark at once
-  whole_name : (number mark : ℕ) → ((s : Bytes) → piece false false 1 (word ++ s) ≡ record { number = number; mark = mark; quoted = false; rest = s }) → 0 < length word → Spelt file at word → ReadsPiece file at line false false (record { number = number; mark = mark; quoted = false; at = at + length word; line = line })
+  whole_name : (number mark : ℕ) → ((s : Bytes) → piece false false 1 (word ++ s) ≡ record { number = number; mark = mark; quoted = false; rest = s }) → 0 < length word → Spelt file at word → ReadsPiece file at line false false (record { number = number; mark = Some mark; quoted = false; place = record { at = at + length word; line = line } })
+  unfolding mark_number
   whole_name number mark says some s =
-      let r = word_read s in
+      let r = word_read file at line b word high s in
       let p : piece false false 1 (ahead file at line) ≡ record { number = number; mark = mark; quoted = false; rest = ahead file (at + length word) line } = ap (piece false false 1) r.bytes ∙ says (ahead file (at + length word) line) in
       record {
         number = sym (ap (λ (q : Pieced). q.number) p);
@@ -78,27 +53,27 @@ module _ (file : Bytes) (at line : ℕ) (b : Before file at line) (word : Bytes)
         quotes = sym (ap (λ (q : Pieced). q.quoted) p);
         rest = sym (ap (λ (q : Pieced). q.rest) p);
         inside = r.inside;
-        further = λ n. omega arith;
+        further = λ m z. omega arith;
       }
 
 module _ {file : Bytes} {at line : ℕ} {t : Bool} {r : Piece} (b : Before file at line) where
-  pub name_dtstart : Stands file at (68 ∷ 84 ∷ 83 ∷ 84 ∷ 65 ∷ 82 ∷ 84 ∷ 59 ∷ []) t → t ≡ true → r ≡ record { number = 39346374228; mark = 59; quoted = false; at = at + 8; line = line } → ReadsPiece file at line false false r
+  pub name_dtstart : Stands file at (68 ∷ 84 ∷ 83 ∷ 84 ∷ 65 ∷ 82 ∷ 84 ∷ 59 ∷ []) t → t ≡ true → r ≡ record { number = 39346374228; mark = Some 59; quoted = false; place = record { at = at + 8; line = line } } → ReadsPiece file at line false false r
   unfolding piece by_stop is_stop turned pack letter pick
   name_dtstart s e q = subst (λ (x : Piece). ReadsPiece file at line false false x) (sym q) (whole_name file at line b (68 ∷ 84 ∷ 83 ∷ 84 ∷ 65 ∷ 82 ∷ 84 ∷ 59 ∷ []) (omega arith, (omega arith, (omega arith, (omega arith, (omega arith, (omega arith, (omega arith, (omega arith, tt)))))))) 39346374228 59 (λ rest. refl) (omega arith) (s.so e))
 
-  pub name_dtend : Stands file at (68 ∷ 84 ∷ 69 ∷ 78 ∷ 68 ∷ 59 ∷ []) t → t ≡ true → r ≡ record { number = 38409668; mark = 59; quoted = false; at = at + 6; line = line } → ReadsPiece file at line false false r
+  pub name_dtend : Stands file at (68 ∷ 84 ∷ 69 ∷ 78 ∷ 68 ∷ 59 ∷ []) t → t ≡ true → r ≡ record { number = 38409668; mark = Some 59; quoted = false; place = record { at = at + 6; line = line } } → ReadsPiece file at line false false r
   unfolding piece by_stop is_stop turned pack letter pick
   name_dtend s e q = subst (λ (x : Piece). ReadsPiece file at line false false x) (sym q) (whole_name file at line b (68 ∷ 84 ∷ 69 ∷ 78 ∷ 68 ∷ 59 ∷ []) (omega arith, (omega arith, (omega arith, (omega arith, (omega arith, (omega arith, tt)))))) 38409668 59 (λ rest. refl) (omega arith) (s.so e))
 
-  pub name_begin : Stands file at (66 ∷ 69 ∷ 71 ∷ 73 ∷ 78 ∷ 58 ∷ []) t → t ≡ true → r ≡ record { number = 35822894; mark = 58; quoted = false; at = at + 6; line = line } → ReadsPiece file at line false false r
+  pub name_begin : Stands file at (66 ∷ 69 ∷ 71 ∷ 73 ∷ 78 ∷ 58 ∷ []) t → t ≡ true → r ≡ record { number = 35822894; mark = Some 58; quoted = false; place = record { at = at + 6; line = line } } → ReadsPiece file at line false false r
   unfolding piece by_stop is_stop turned pack letter pick
   name_begin s e q = subst (λ (x : Piece). ReadsPiece file at line false false x) (sym q) (whole_name file at line b (66 ∷ 69 ∷ 71 ∷ 73 ∷ 78 ∷ 58 ∷ []) (omega arith, (omega arith, (omega arith, (omega arith, (omega arith, (omega arith, tt)))))) 35822894 58 (λ rest. refl) (omega arith) (s.so e))
 
-  pub name_end : Stands file at (69 ∷ 78 ∷ 68 ∷ 58 ∷ []) t → t ≡ true → r ≡ record { number = 38340; mark = 58; quoted = false; at = at + 4; line = line } → ReadsPiece file at line false false r
+  pub name_end : Stands file at (69 ∷ 78 ∷ 68 ∷ 58 ∷ []) t → t ≡ true → r ≡ record { number = 38340; mark = Some 58; quoted = false; place = record { at = at + 4; line = line } } → ReadsPiece file at line false false r
   unfolding piece by_stop is_stop turned pack letter pick
   name_end s e q = subst (λ (x : Piece). ReadsPiece file at line false false x) (sym q) (whole_name file at line b (69 ∷ 78 ∷ 68 ∷ 58 ∷ []) (omega arith, (omega arith, (omega arith, (omega arith, tt)))) 38340 58 (λ rest. refl) (omega arith) (s.so e))
 
-  pub name_dtstamp : Stands file at (68 ∷ 84 ∷ 83 ∷ 84 ∷ 65 ∷ 77 ∷ 80 ∷ 58 ∷ []) t → t ≡ true → r ≡ record { number = 39346374064; mark = 58; quoted = false; at = at + 8; line = line } → ReadsPiece file at line false false r
+  pub name_dtstamp : Stands file at (68 ∷ 84 ∷ 83 ∷ 84 ∷ 65 ∷ 77 ∷ 80 ∷ 58 ∷ []) t → t ≡ true → r ≡ record { number = 39346374064; mark = Some 58; quoted = false; place = record { at = at + 8; line = line } } → ReadsPiece file at line false false r
   unfolding piece by_stop is_stop turned pack letter pick
   name_dtstamp s e q = subst (λ (x : Piece). ReadsPiece file at line false false x) (sym q) (whole_name file at line b (68 ∷ 84 ∷ 83 ∷ 84 ∷ 65 ∷ 77 ∷ 80 ∷ 58 ∷ []) (omega arith, (omega arith, (omega arith, (omega arith, (omega arith, (omega arith, (omega arith, (omega arith, tt)))))))) 39346374064 58 (λ rest. refl) (omega arith) (s.so e))
 

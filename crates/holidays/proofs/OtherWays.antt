@@ -8,8 +8,9 @@ use lib.Dec.{eqb}
 use lib.ListN.{length, get_or}
 use borrow.Author.Tests.{ne_eqb}
 use borrow.Author.Rules.{rules}
+use Rattle.std.specs.Prelude.{Ok, Err}
+use Rattle.refusal.specs.declared.Refusal.TheVariants.{Ical}
 use Rattle.holidays.specs.declared.turns.State.{State}
-use Rattle.holidays.specs.declared.turns.Turn.TheVariants as turn_is
 use Rattle.holidays.specs.Words.{Bytes, pick, upper, uppers, equal, ascii, spells, COLON, SEMICOLON, QUOTE}
 use Rattle.holidays.specs.Content.{Content, turned, by_mark, content_from, content_of, other, name_of}
 use Rattle.holidays.specs.Nesting.{After, broken, open_are, after, after_other, is_blank}
@@ -68,25 +69,25 @@ other_turn a inside room line c h ps e = rw e (go inside)
     go true = refl
     go false = refl
 
-module _ (file : Bytes) (st : State) (stack : List ℕ) (room : ℕ) (map : List ℕ) (b : Before file st.at st.line) (text : is_blank (ahead file st.at st.line) ≡ false) (k : Keeps file stack room map st) {r : Bool} (o : Others file st.at r) (e : r ≡ true) where
+module _ (file : Bytes) (st : State) (stack : List ℕ) (room : ℕ) (map : List ℕ) (b : Before file st.place.at st.place.line) (text : is_blank (ahead file st.place.at st.place.line) ≡ false) (k : Keeps file stack room map st) {r : Bool} (o : Others file st.place.at r) (e : r ≡ true) where
   abbrev here : Here
   here = here_of file stack (days_of map) st
 
-  turn_by : turn_of room (record { number = st.line; bytes = ahead file st.at st.line }) here ≡ nest_turn (after_other here.parts) (in_event here.parts) other room st.line (line_of file st) here.draft here.dates
+  turn_by : turn_of room (record { number = st.place.line; bytes = ahead file st.place.at st.place.line }) here ≡ nest_turn (after_other here.parts) (in_event here.parts) other room st.place.line (line_of file st) here.draft here.dates
   unfolding turn_of blank_turn_of line_turn after
-  turn_by = rw (text, o.so e st.line b)
+  turn_by = rw (text, o.so e st.place.line b)
 
-  pub other_outside : st.depth ≡ 0 → Turned file st stack room map (turn_is.Stops 24) stack map
+  pub other_outside : st.depth ≡ 0 → Turned file st stack room map (Err Ical) stack map
   unfolding turn_shows IsTurnState parts_of after_other nest_turn
   other_outside z =
       let q : after_other here.parts ≡ broken = ap (λ (n : ℕ). after_other (parts_of file stack n)) z in
-      record { same = sym (turn_by ∙ ap (λ (a : After). nest_turn a (in_event here.parts) other room st.line (line_of file st) here.draft here.dates) q); kept = tt }
+      record { same = sym (turn_by ∙ ap (λ (a : After). nest_turn a (in_event here.parts) other room st.place.line (line_of file st) here.draft here.dates) q); kept = tt }
 
-  pub other_passes : (st.depth ≡ 0 → ⊥) → Turned file st stack room map (turn_is.Goes st) stack map
+  pub other_passes : (st.depth ≡ 0 → ⊥) → Turned file st stack room map (Ok st) stack map
   unfolding turn_shows IsTurnState
   other_passes z =
       record {
-        same = sym (turn_by ∙ other_turn (after_other here.parts) (in_event here.parts) room st.line (line_of file st) here here.parts (open_parts file stack st.depth z));
+        same = sym (turn_by ∙ other_turn (after_other here.parts) (in_event here.parts) room st.place.line (line_of file st) here here.parts (open_parts file stack st.depth z));
         kept = record { inside = inside_here b; keeps = k };
       }
 

@@ -10,7 +10,7 @@ use lib.Dec.{eqb}
 use lib.ListN.{length, get_or, set}
 use borrow.Author.Rules.{rules}
 use borrow.Author.Tests.{eq-eqb, ne_eqb}
-use Rattle.holidays.specs.declared.parts.Opened.TheVariants as opened-is
+use Rattle.std.specs.Prelude.{None, Some}
 use Rattle.holidays.specs.Words.{Bytes, uppers, equal}
 use Rattle.holidays.specs.Content.{value}
 use Rattle.holidays.specs.Nesting.{Parts, may_begin, may_end, open_are, after_begin}
@@ -18,7 +18,7 @@ use Rattle.holidays.specs.Laws.Nest.{parts_long, begins_so, part_put, nest_event
 use Rattle.holidays.specs.Inner.Letters.{packs}
 use Rattle.holidays.specs.Inner.Along.{ahead, Before}
 use Rattle.holidays.specs.Inner.Parts.{parts_of, CALENDAR_IS, may_begin_by, NestIsOk, OpensAs, Opens}
-use Rattle.holidays.proofs.WordWays.{taken, left, ahead_any, before_any}
+use Rattle.holidays.proofs.WordWays.{taken, left, ahead_any}
 
 -- ---- what may begin
 module _ (depth w : ℕ) where
@@ -50,7 +50,7 @@ module _ (file : Bytes) (at line depth : ℕ) (event : Bool) (stack : List ℕ) 
   may : b ≡ may_begin (ahead file at line) here
   may = q ∙ ap (may_begin_by depth) p ∙ sym (begins_so (ahead file at line) event here depth nest (parts_long file stack depth))
 
-  pub open_broken : b ≡ false → Opens file at line depth event stack opened-is.Broken stack
+  pub open_broken : b ≡ false → Opens file at line depth event stack None stack
   unfolding OpensAs after_begin
   open_broken e = record { so = (sym (left _ _ _ (sym may ∙ e)), refl) }
 
@@ -65,12 +65,12 @@ module _ (file : Bytes) (at line depth : ℕ) (event : Bool) (stack : List ℕ) 
     by_number : may_begin_by depth (packs 1 (ahead file at line)) ≡ true
     by_number = ap (may_begin_by depth) (sym p) ∙ sym q ∙ e
 
-    pub open_second : depth ≡ 1 → Opens file at line depth event stack (opened-is.Open (eqb w 1817908692)) (set stack depth at)
+    pub open_second : depth ≡ 1 → Opens file at line depth event stack (Some (eqb w 1817908692)) (set stack depth at)
     unfolding OpensAs
     open_second z =
         record { so = (after_so, (rw (put_so, p) (nest_event (ahead file at line) event here depth nest (parts_long file stack depth) by_number z), refl)) }
 
-    pub open_other : (depth ≡ 1 → ⊥) → Opens file at line depth event stack (opened-is.Open event) (set stack depth at)
+    pub open_other : (depth ≡ 1 → ⊥) → Opens file at line depth event stack (Some event) (set stack depth at)
     unfolding OpensAs
     open_other z =
         record { so = (after_so, (rw put_so (nest_kept (ahead file at line) event here depth nest (parts_long file stack depth) by_number z), refl)) }
@@ -81,12 +81,11 @@ place_fits b = omega (arith, b.inside, b.short)
 pub ruleset openings = (open_broken, open_second, open_other, place_fits, rules)
 
 -- ---- the innermost part ends
-pub end_same : {file : Bytes} {at line : ℕ} (depth : ℕ) (stack : List ℕ) {b : Bool} → Before file at line → b ≡ equal (uppers (ahead file at 0)) (uppers (ahead file (get_or stack depth 0) 0)) → b ≡ may_end (ahead file at line) (parts_of file stack (depth + 1))
+pub end_same : (file : Bytes) (at line depth : ℕ) (stack : List ℕ) {b : Bool} → b ≡ equal (uppers (ahead file at line)) (uppers (ahead file (get_or stack depth 0) 0)) → b ≡ may_end (ahead file at line) (parts_of file stack (depth + 1))
 unfolding may_end parts_of
-end_same {file} {at} {line} depth stack s e =
-    e ∙ ap (λ (x : Bytes). equal (uppers x) (uppers (ahead file (get_or stack depth 0) 0))) (ahead_any file at 0 line) ∙ ap (λ (k : ℕ). may_end (ahead file at line) (parts_of file stack k)) (sym (add-one depth))
+end_same file at line depth stack e = e ∙ ap (λ (k : ℕ). may_end (ahead file at line) (parts_of file stack k)) (sym (add-one depth))
 
 pub place_in : {file : Bytes} {at line : ℕ} (i : ℕ) → Before file at line → i ≤ length file → Before file i 0
 place_in i b h = record { inside = h; short = b.short; low = omega arith }
 
-pub ruleset endings = (before_any, end_same, place_in, rules)
+pub ruleset endings = (end_same, place_in, rules)

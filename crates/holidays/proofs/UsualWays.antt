@@ -1,28 +1,22 @@
 -- Laws of the usual parameter, VALUE=DATE, read at once.
 -- Assumes nothing.
-use Prim.Native.Nat.{ℕ, ◌+◌, ◌-◌, ◌≤◌, ◌<◌}
+use Prim.Native.Nat.{ℕ, suc, ◌+◌, ◌≤◌, ◌<◌}
 use mathlib.Core.Path.{◌≡◌, sym, ap, ◌∙◌, subst}
-use mathlib.Core.Bool.{Bool, true, false, false≢true}
-use mathlib.Core.List.{[], ◌∷◌, ◌++◌, append_assoc}
+use mathlib.Core.Bool.{Bool, true, false}
+use mathlib.Core.List.{[], ◌∷◌, ◌++◌, append_assoc, append-nil}
 use native.Mathlib.Omega.{arith}
 use lib.ListN.{length, get_or}
 use borrow.Author.Rules.{rules}
 use Rattle.holidays.specs.Words.{Bytes, pick, upper, uppers, equal, ascii, spells}
 use Rattle.holidays.specs.Content.{turned, by_mark, content_from, kind_of, by_equals, parameter_of, one_further, by_parameter, kind_in}
 use Rattle.holidays.specs.Inner.Along.{Before, ahead, Inside, IsStepped}
-use Rattle.holidays.specs.Inner.Digits.{kind_of_number}
-use Rattle.holidays.specs.Inner.Parameters.{said_at, ReadsKinds, Eleven, Usual}
+use Rattle.std.specs.Prelude.{Some}
+use Rattle.holidays.specs.declared.parameters.Kind.TheVariants as kind-is
+use Rattle.holidays.specs.Inner.Digits.{kind_is}
+use Rattle.holidays.specs.Inner.Others.{Spelt, Stands}
+use Rattle.holidays.specs.Inner.Parameters.{said_at, LiesInside, ReadsKinds}
 use Rattle.holidays.proofs.LineWays.{next_start, next_byte}
 use Rattle.holidays.proofs.WordWays.{inside_here, inside_on}
-
-pub not_usual : (file : Bytes) (at : ℕ) → Usual file at false
-not_usual file at = record { so = λ e. absurd (false≢true e) }
-
-pub is_usual : (file : Bytes) (at : ℕ) → 11 ≤ length file → at ≤ length file - 11 → get_or file at 0 ≡ 86 → get_or file (at + 1) 0 ≡ 65 → get_or file (at + 2) 0 ≡ 76 → get_or file (at + 3) 0 ≡ 85 → get_or file (at + 4) 0 ≡ 69 → get_or file (at + 5) 0 ≡ 61 → get_or file (at + 6) 0 ≡ 68 → get_or file (at + 7) 0 ≡ 65 → get_or file (at + 8) 0 ≡ 84 → get_or file (at + 9) 0 ≡ 69 → get_or file (at + 10) 0 ≡ 58 → Usual file at true
-is_usual file at h l b₀ b₁ b₂ b₃ b₄ b₅ b₆ b₇ b₈ b₉ b₁₀ =
-    record { so = λ q. record { within = omega arith; b₀ = b₀; b₁ = b₁; b₂ = b₂; b₃ = b₃; b₄ = b₄; b₅ = b₅; b₆ = b₆; b₇ = b₇; b₈ = b₈; b₉ = b₉; b₁₀ = b₁₀ } }
-
-pub ruleset usuals = (not_usual, is_usual, rules)
 
 -- ---- bytes of a line, one after the other, without a fold
 pub record Read (file : Bytes) (at line k : ℕ) (done : Bytes) : Type 0 where
@@ -52,24 +46,45 @@ read_more file at line k c {done} r h e l =
     return : get_or file (at + k) 0 ≡ c → 13 < c → get_or file (at + k) 0 ≡ 13 → ⊥
     return p q x = omega arith
 
-eleven_read : (file : Bytes) (at line : ℕ) → Before file at line → Eleven file at → Read file at line 11 (ascii "VALUE=DATE:")
-unfolding ascii
-eleven_read file at line b e =
-    let w : at + 11 ≤ length file = e.within in
-    let z : at + 0 ≡ at = omega arith in
-    read_more file at line 10 58 (read_more file at line 9 69 (read_more file at line 8 84 (read_more file at line 7 65 (read_more file at line 6 68 (read_more file at line 5 61 (read_more file at line 4 69 (read_more file at line 3 85 (read_more file at line 2 76 (read_more file at line 1 65 (read_more file at line 0 86 (read_start b) (omega arith) (ap (λ (i : ℕ). get_or file i 0) z ∙ e.b₀) (omega arith)) (omega arith) e.b₁ (omega arith)) (omega arith) e.b₂ (omega arith)) (omega arith) e.b₃ (omega arith)) (omega arith) e.b₄ (omega arith)) (omega arith) e.b₅ (omega arith)) (omega arith) e.b₆ (omega arith)) (omega arith) e.b₇ (omega arith)) (omega arith) e.b₈ (omega arith)) (omega arith) e.b₉ (omega arith)) (omega arith) e.b₁₀ (omega arith)
+-- ---- a word along the line
+abbrev pub High : Bytes → Type 0
+High [] = Unit {0}
+High (c ∷ s) = (13 < c) × High s
 
-pub usual_kinds : {file : Bytes} {at line : ℕ} {r : Bool} → Before file at line → Usual file at r → r ≡ true → ReadsKinds file at line (record { kind = 1; found = true; at = at + 11; line = line })
-unfolding content_from by_mark turned kind_in by_parameter parameter_of by_equals one_further kind_of spells uppers upper equal ascii pick kind_of_number said_at
+read_on : (file : Bytes) (at line : ℕ) (word : Bytes) (k : ℕ) (done : Bytes) → High word → Read file at line k done → at + k + length word ≤ length file → ((j : ℕ) → j < length word → get_or file (at + k + j) 0 ≡ get_or word j 0) → Read file at line (k + length word) (done ++ word)
+read_on file at line [] k done g r w h =
+    let e : k ≡ k + 0 = omega arith in
+    subst (λ (i : ℕ). Read file at line i (done ++ [])) e (subst (λ (s : Bytes). Read file at line k s) (sym (append-nil done)) r)
+read_on file at line (c ∷ word) k done g r w h =
+    let e : k + 1 + length word ≡ k + suc (length word) = omega arith in
+    let z : at + k + 0 ≡ at + k = omega arith in
+    let one = read_more file at line k c r (omega arith) (ap (λ (i : ℕ). get_or file i 0) (sym z) ∙ h 0 (omega arith)) g.0 in
+    let rest = read_on file at line word (k + 1) (done ++ (c ∷ [])) g.1 one (omega arith) (λ j i. ap (λ (m : ℕ). get_or file m 0) (shift j) ∙ h (suc j) (omega arith)) in
+    subst (λ (i : ℕ). Read file at line i (done ++ (c ∷ word))) e (subst (λ (s : Bytes). Read file at line (k + 1 + length word) s) (append_assoc done (c ∷ []) word) rest)
+  where
+    shift : (j : ℕ) → at + (k + 1) + j ≡ at + k + suc j
+    shift j = omega arith
+
+module _ (file : Bytes) (at line : ℕ) (b : Before file at line) (word : Bytes) (high : High word) where
+  pub word_read : Spelt file at word → Read file at line (length word) word
+  word_read s =
+      let e : 0 + length word ≡ length word = omega arith in
+      subst (λ (i : ℕ). Read file at line i word) e (read_on file at line word 0 [] high (read_start b) (omega (arith, s.within)) (λ j i. ap (λ (m : ℕ). get_or file m 0) (plus j) ∙ s.bytes j i))
+    where
+      plus : (j : ℕ) → at + 0 + j ≡ at + j
+      plus j = omega arith
+
+pub usual_kinds : {file : Bytes} {at line : ℕ} {r : Bool} → Before file at line → Stands file at (86 ∷ 65 ∷ 76 ∷ 85 ∷ 69 ∷ 61 ∷ 68 ∷ 65 ∷ 84 ∷ 69 ∷ 58 ∷ []) r → r ≡ true → ReadsKinds file at line (record { kind = kind-is.Date; place = Some (record { at = at + 11; line = line }) })
+unfolding content_from by_mark turned kind_in by_parameter parameter_of by_equals one_further kind_of spells uppers upper equal ascii pick kind_is said_at LiesInside
 usual_kinds {file} {at} {line} b u t =
-    let q = eleven_read file at line b (u.so t) in
+    let q = word_read file at line b (86 ∷ 65 ∷ 76 ∷ 85 ∷ 69 ∷ 61 ∷ 68 ∷ 65 ∷ 84 ∷ 69 ∷ 58 ∷ []) (omega arith, (omega arith, (omega arith, (omega arith, (omega arith, (omega arith, (omega arith, (omega arith, (omega arith, (omega arith, (omega arith, tt))))))))))) (u.so t) in
     record {
       kind = sym (ap (λ (s : Bytes). kind_in ((content_from false s).name ∷ (content_from false s).parameters)) q.bytes);
       said = ap (λ (s : Bytes). (content_from false s).said) q.bytes;
       inside = q.inside;
     }
 
-pub usual_fits : {file : Bytes} {at : ℕ} {r : Bool} → Usual file at r → r ≡ true → at + 11 ≤ length file
+pub usual_fits : {file word : Bytes} {at : ℕ} {r : Bool} → Stands file at word r → r ≡ true → at + length word ≤ length file
 usual_fits u t = (u.so t).within
 
 pub ruleset usual_ways = (usual_kinds, rules)

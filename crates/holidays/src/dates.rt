@@ -1,85 +1,55 @@
 // What a DTSTART or a DTEND says: a day, a day with a time, or neither.
 ghost use Rattle.std.specs.Prelude.{◌≡◌, ◌+◌, ◌-◌, ◌*◌, ◌/◌, ◌≤◌};
-ghost use Rattle.holidays.specs.Nesting.{is_blank};
 ghost use Rattle.holidays.specs.Dated.{is_date_time};
 ghost use Rattle.holidays.specs.Inner.Along.{Before, ahead};
-ghost use Rattle.holidays.specs.Inner.Digits.{Paired, ReadsPair, Numbers, ReadsDay, ReadsClock, zone_in, time_in, SaysDate};
+ghost use Rattle.holidays.specs.Inner.Digits.{IsDigit, Paired, ReadsPair, Numbers, ReadsDay, ReadsClock, zone_in, time_in, SaysDate};
 
-use crate::lines::Step;
+use crate::lines::Place;
+use crate::parameters::Kind;
 use crate::{lines, words};
-use date::{Date, Dated};
+use date::Date;
+use refusal::Refusal;
 
-// The number of two digits, 100 where there are none, and the place behind them.
-#[derive(Drop)]
-struct Pair {
-    value: u32,
-    at: usize,
-    line: u32,
-}
+// The numbers of no word, of T and of Z.
+const NOTHING: u64 = 1;
 
-// A day, counted from 400 years before day 1; 0 where there is none; and the place behind it.
-#[derive(Drop)]
-struct Day {
-    number: u32,
-    at: usize,
-    line: u32,
-}
+const T: u64 = 52;
 
-#[derive(Drop)]
-struct Clock {
-    good: bool,
-    at: usize,
-    line: u32,
-}
+const Z: u64 = 58;
 
-#[derive(Drop)]
-pub(crate) enum Said {
-    Day(u32),
-    Timed,
-    Bad,
-}
-
-fn pair_of(a: u8, b: u8) -> u32
-    ensures { Paired a b result }
+#[tactic(auto, using(crate::proofs::DateWays::digits_of))]
+fn digit(b: u8) -> Option<u32>
+    ensures { IsDigit b result }
 {
-    if a < 48 {
-        return 100;
-    }
-    if 57 < a {
-        return 100;
-    }
     if b < 48 {
-        return 100;
+        return None;
     }
     if 57 < b {
-        return 100;
+        return None;
     }
-    (a - 48) as u32 * 10 + (b - 48) as u32
+    Some((b - 48) as u32)
 }
 
-fn read_pair(file: &[u8], at: usize, line: u32) -> Pair
-    requires { Before file.now at line }
-    ensures { ReadsPair file.now at line result }
+// The number of two digits.
+#[tactic(auto, using(crate::proofs::DateWays::digit_pairs))]
+fn pair_of(a: u8, b: u8) -> Option<u32>
+    ensures { Paired a b result }
 {
-    match lines::next(file, at, line) {
-        Step::End => Pair {
-            value: 100,
-            at,
-            line,
-        },
-        Step::Byte(a, i, n) => match lines::next(file, i, n) {
-            Step::End => Pair {
-                value: 100,
-                at,
-                line,
-            },
-            Step::Byte(b, j, m) => Pair {
-                value: pair_of(a, b),
-                at: j,
-                line: m,
-            },
-        },
-    }
+    let tens = digit(a)?;
+    let ones = digit(b)?;
+    Some(tens * 10 + ones)
+}
+
+// The number of two digits, and the place behind them.
+#[tactic(auto, using(crate::proofs::DateWays::pairs_of))]
+fn read_pair(file: &[u8], from: Place) -> Option<(u32, Place)>
+    requires { Before file.now from.at from.line }
+    ensures { ReadsPair file.now from.at from.line result }
+{
+    let (a, second) = lines::next(file, from)?;
+    let (b, behind) = lines::next(file, second)?;
+    let number = pair_of(a, b)?;
+    Some((number, behind))
 }
 
 // The calendar repeats itself after 400 years: a day of 2000 to 2399, as many cycles on as its year.
@@ -92,175 +62,126 @@ fn on_by_cycles(n: u32, year: u32) -> u32
     n + year / 400 * 146097 - 584388
 }
 
-fn number_of(year: u32, month: u32, day: u32) -> u32
+#[tactic(auto, using(crate::proofs::DateWays::number_ways))]
+fn number_of(year: u32, month: u32, day: u32) -> Option<u32>
     requires { year ≤ 10100 }
     ensures { Numbers year month day result }
 {
     match Date::make(2000 + year % 400, month, day) {
-        Dated::Day(d) => on_by_cycles(d.day, year),
-        Dated::Refused(_) => 0,
+        Ok(d) => Some(on_by_cycles(d.day, year)),
+        Err(_) => None,
     }
 }
 
-fn read_day(file: &[u8], at: usize, line: u32) -> Day
-    requires { Before file.now at line }
-    ensures { ReadsDay file.now at line result }
+// A day, counted from 400 years before day 1, and the place behind it.
+#[tactic(auto, using(crate::proofs::DateWays::day_ways))]
+fn read_day(file: &[u8], from: Place) -> Option<(u32, Place)>
+    requires { Before file.now from.at from.line }
+    ensures { ReadsDay file.now from.at from.line result }
 {
-    let c = read_pair(file, at, line);
-    if c.value == 100 {
-        return Day {
-            number: 0,
-            at,
-            line,
-        };
-    }
-    let y = read_pair(file, c.at, c.line);
-    if y.value == 100 {
-        return Day {
-            number: 0,
-            at,
-            line,
-        };
-    }
-    let m = read_pair(file, y.at, y.line);
-    if m.value == 100 {
-        return Day {
-            number: 0,
-            at,
-            line,
-        };
-    }
-    let d = read_pair(file, m.at, m.line);
-    if d.value == 100 {
-        return Day {
-            number: 0,
-            at,
-            line,
-        };
-    }
-    Day {
-        number: number_of(c.value * 100 + y.value, m.value, d.value),
-        at: d.at,
-        line: d.line,
-    }
+    let (century, after_century) = read_pair(file, from)?;
+    let (year, after_year) = read_pair(file, after_century)?;
+    let (month, after_month) = read_pair(file, after_year)?;
+    let (day, behind) = read_pair(file, after_month)?;
+    let number = number_of(century * 100 + year, month, day)?;
+    Some((number, behind))
 }
 
-fn read_clock(file: &[u8], at: usize, line: u32) -> Clock
-    requires { Before file.now at line }
-    ensures { ReadsClock file.now at line result }
+// The place behind a time.
+#[tactic(auto, using(crate::proofs::DateWays::clocks_of))]
+fn read_clock(file: &[u8], from: Place) -> Option<Place>
+    requires { Before file.now from.at from.line }
+    ensures { ReadsClock file.now from.at from.line result }
 {
-    let h = read_pair(file, at, line);
-    if 23 < h.value {
-        return Clock {
-            good: false,
-            at,
-            line,
-        };
+    let (hour, after_hour) = read_pair(file, from)?;
+    if 23 < hour {
+        return None;
     }
-    let m = read_pair(file, h.at, h.line);
-    if 59 < m.value {
-        return Clock {
-            good: false,
-            at,
-            line,
-        };
+    let (minute, after_minute) = read_pair(file, after_hour)?;
+    if 59 < minute {
+        return None;
     }
-    let s = read_pair(file, m.at, m.line);
-    if 60 < s.value {
-        return Clock {
-            good: false,
-            at,
-            line,
-        };
+    let (second, behind) = read_pair(file, after_minute)?;
+    if 60 < second {
+        return None;
     }
-    Clock {
-        good: true,
-        at: s.at,
-        line: s.line,
-    }
-}
-
-// Whether nothing is left of the line.
-pub(crate) fn is_over(file: &[u8], at: usize, line: u32) -> bool
-    requires { Before file.now at line }
-    ensures { result ≡ is_blank (ahead file.now at line) }
-{
-    match lines::next(file, at, line) {
-        Step::End => true,
-        Step::Byte(_, _, _) => false,
-    }
+    Some(behind)
 }
 
 // Nothing or Z, to the line's end.
-fn is_zone(file: &[u8], at: usize, line: u32) -> bool
-    requires { Before file.now at line }
-    ensures { result ≡ zone_in (ahead file.now at line) }
+#[tactic(auto, using(crate::proofs::DateWays::time_ways))]
+fn is_zone(file: &[u8], from: Place) -> bool
+    requires { Before file.now from.at from.line }
+    ensures { result ≡ zone_in (ahead file.now from.at from.line) }
 {
-    let w = words::word_at(file, at, line);
-    if w == 1 {
+    let word = words::word_at(file, from);
+    if word == NOTHING {
         return true;
     }
-    w == 58
+    word == Z
 }
 
 // T, a time, then nothing or Z.
-fn is_time(file: &[u8], at: usize, line: u32) -> bool
-    requires { Before file.now at line }
-    ensures { result ≡ time_in (ahead file.now at line) }
+#[tactic(auto, using(crate::proofs::DateWays::time_ways))]
+fn is_time(file: &[u8], from: Place) -> bool
+    requires { Before file.now from.at from.line }
+    ensures { result ≡ time_in (ahead file.now from.at from.line) }
 {
-    match lines::next(file, at, line) {
-        Step::End => false,
-        Step::Byte(b, i, n) => {
-            if words::packed(1, b) == 52 {
-                let c = read_clock(file, i, n);
-                if c.good {
-                    return is_zone(file, c.at, c.line);
-                }
+    match lines::next(file, from) {
+        None => false,
+        Some((b, behind)) => {
+            if words::packed(1, b) != T {
                 return false;
             }
-            false
+            match read_clock(file, behind) {
+                None => false,
+                Some(zone) => is_zone(file, zone),
+            }
         }
     }
 }
 
-fn is_timed(file: &[u8], at: usize, line: u32) -> bool
-    requires { Before file.now at line }
-    ensures { result ≡ is_date_time (ahead file.now at line) }
+#[tactic(auto, using(crate::proofs::DateWays::said_ways))]
+fn is_timed(file: &[u8], from: Place) -> bool
+    requires { Before file.now from.at from.line }
+    ensures { result ≡ is_date_time (ahead file.now from.at from.line) }
 {
-    let d = read_day(file, at, line);
-    if d.number == 0 {
-        return false;
+    match read_day(file, from) {
+        None => false,
+        Some((_, behind)) => is_time(file, behind),
     }
-    is_time(file, d.at, d.line)
 }
 
-fn read_all_day(file: &[u8], at: usize, line: u32) -> Said
-    requires { Before file.now at line }
-    ensures { SaysDate 1 (ahead file.now at line) result }
+#[tactic(auto, using(crate::proofs::DateWays::said_ways))]
+fn read_all_day(file: &[u8], from: Place) -> Result<u32, Refusal>
+    requires { Before file.now from.at from.line }
+    ensures { SaysDate Kind.Date (ahead file.now from.at from.line) result }
 {
-    let d = read_day(file, at, line);
-    if d.number == 0 {
-        return Said::Bad;
+    match read_day(file, from) {
+        None => Err(Refusal::Ical),
+        Some((day, behind)) => {
+            if lines::is_over(file, behind) {
+                return Ok(day);
+            }
+            Err(Refusal::Ical)
+        }
     }
-    if is_over(file, d.at, d.line) {
-        return Said::Day(d.number);
-    }
-    Said::Bad
 }
 
-// By the parameter VALUE: 0 where it is not there, 1 for DATE, 2 for DATE-TIME, 3 for anything else.
-pub(crate) fn read_date(file: &[u8], at: usize, line: u32, kind: u8) -> Said
-    requires { Before file.now at line }
-    ensures { SaysDate kind (ahead file.now at line) result }
+// The day of an all-day date, by the parameter VALUE.
+#[tactic(auto, using(crate::proofs::DateWays::kind_ways))]
+pub(crate) fn read_date(file: &[u8], from: Place, kind: Kind) -> Result<u32, Refusal>
+    requires { Before file.now from.at from.line }
+    ensures { SaysDate kind (ahead file.now from.at from.line) result }
 {
-    if kind == 1 {
-        return read_all_day(file, at, line);
+    match kind {
+        Kind::Date => read_all_day(file, from),
+        Kind::Strange => Err(Refusal::Ical),
+        _ => {
+            if is_timed(file, from) {
+                return Err(Refusal::IcalKind);
+            }
+            Err(Refusal::Ical)
+        }
     }
-    if 2 < kind {
-        return Said::Bad;
-    }
-    if is_timed(file, at, line) {
-        return Said::Timed;
-    }
-    Said::Bad
 }

@@ -1,13 +1,6 @@
-// The days of 1800 to 2399 as a map of bits: day 657,072 is bit 0.
+// The days of 1800 to 2399 as a map of bits: day 657,072 is bit 0. The memory is fixed, so that no set grows.
 ghost use Rattle.std.specs.Prelude.{◌≡◌, false, ◌+◌, ◌≤◌, ◌<◌, ◌/◌, ◌%◌, ◌^◌, length, get_or, set};
 ghost use Rattle.holidays.specs.Inner.Days.{WORDS, DAYS, bit_at, days_of, over, Fulls, Empties, Adds};
-
-// How many days there are now; or that one more had no place.
-#[derive(Drop)]
-pub(crate) enum Added {
-    Days(u32),
-    Full,
-}
 
 fn is_set(map: &[u32], o: u32) -> bool
     requires map_len { length map.now ≡ WORDS }
@@ -59,8 +52,16 @@ fn is_empty(map: &[u32], o: u32) -> bool
     map[w] == 0
 }
 
-// Adds the days from `first` up to `past`, ascending, to the `count` days of the map; a full word is passed over at once.
-pub(crate) fn add_days(map: &mut [u32], first: u32, past: u32, count: u32, limit: u32) -> Added
+// Adds the days from `first` up to `past`, ascending, to the `count` days of the map, and answers how many there are then; nothing if
+// one more had no place. A full word is passed over at once. No `for`: the steps are of one day and of 32.
+#[tactic(auto, using(crate::proofs::DayWays::addings))]
+pub(crate) fn add_days(
+    map: &mut [u32],
+    first: u32,
+    past: u32,
+    count: u32,
+    limit: u32,
+) -> Option<u32>
     requires map_len { length map.old ≡ WORDS }
     requires first_le_past { first ≤ past }
     requires past_bound { past ≤ DAYS }
@@ -76,17 +77,17 @@ pub(crate) fn add_days(map: &mut [u32], first: u32, past: u32, count: u32, limit
         } else if is_set(map, o) {
             o += 1;
         } else if n == limit {
-            return Added::Full;
+            return None;
         } else {
             put(map, o);
             n += 1;
             o += 1;
         }
     }
-    Added::Days(n)
+    Some(n)
 }
 
-// Writes the days of the map over the start of the list.
+// Writes the days of the map over the start of the list; an empty word is passed over at once. No `for`: the steps are of one day and of 32.
 pub(crate) fn write_days(map: &[u32], list: &mut [u32])
     requires map_len { length map.now ≡ WORDS }
     requires map_in_bounds { length (days_of map.now) ≤ length list.old }

@@ -5,7 +5,7 @@ ghost use Rattle.std.specs.Prelude.{◌≡◌};
 ghost use Rattle.holidays.specs.Import.{size_ok};
 ghost use Rattle.holidays.specs.Promise.{Imports};
 
-use walk::Ended;
+use refusal::Refusal;
 
 // Unfolded lines.
 mod lines;
@@ -33,29 +33,27 @@ fn is_size(n: usize) -> bool
     1 <= n && n <= 65536
 }
 
-// How many days stand at the start of the lent list; or the number of the refusal, and the line that it is for.
-#[derive(Clone, Copy)]
-pub enum Imported {
-    Days(u32),
-    Refused(u8, u32),
+/// Why a file is refused, and the number of its line that is; 0 for the whole file.
+#[derive(Clone, Copy, Debug, PartialEq, Eq)]
+pub struct Fault {
+    pub refusal: Refusal,
+    pub line: u32,
 }
 
-// The days of a calendar file as a closed list, ascending. The list is written on success alone.
-pub fn import(file: &[u8], list: &mut [u32]) -> Imported
+/// The days of a calendar file as a closed list, ascending; answers how many. The list is written on success alone.
+#[tactic(auto, using(crate::proofs::ImportWays::imports))]
+pub fn import(file: &[u8], list: &mut [u32]) -> Result<u32, Fault>
     ensures { Imports file.now list.old result list.new }
 {
-    if is_size(file.len()) {
-        let mut stack = [0u32; 10923];
-        let mut map = [0u32; 6849];
-        match walk::read_file(file, list.len(), &mut stack, &mut map) {
-            Ended::Refused(n, line) => {
-                return Imported::Refused(n, line);
-            }
-            Ended::Days(count) => {
-                days::write_days(&map, list);
-                return Imported::Days(count);
-            }
-        }
+    if !is_size(file.len()) {
+        return Err(Fault {
+            refusal: Refusal::Ical,
+            line: 0,
+        });
     }
-    Imported::Refused(refusal::ICAL, 0)
+    let mut stack = [0u32; 10923];
+    let mut map = [0u32; 6849];
+    let count = walk::read_file(file, list.len(), &mut stack, &mut map)?;
+    days::write_days(&map, list);
+    Ok(count)
 }

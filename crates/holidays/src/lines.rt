@@ -2,23 +2,18 @@
 ghost use Rattle.std.specs.Prelude.{◌≡◌, drop};
 ghost use Rattle.holidays.specs.Lines.{starts_with};
 ghost use Rattle.holidays.specs.Inner.Cut.{folds};
-ghost use Rattle.holidays.specs.Inner.Along.{Before, Steps, Skipping, Clears, Skipped};
+ghost use Rattle.holidays.specs.Nesting.{is_blank};
+ghost use Rattle.holidays.specs.Inner.Along.{ahead, Before, Steps, Skipping, Clears, Skipped};
 
 // A place in the file, and the number of the physical line there.
-#[derive(Drop)]
+#[derive(Clone, Copy)]
 pub(crate) struct Place {
     pub(crate) at: usize,
     pub(crate) line: u32,
 }
 
-// The next byte of an unfolded line, with the place and the line number behind it; or the line's end.
-#[derive(Drop)]
-pub(crate) enum Step {
-    End,
-    Byte(u8, usize, u32),
-}
-
 // Whether a blank or a tab stands there.
+#[tactic(auto, using(crate::proofs::LineWays::skips))]
 fn is_fold(file: &[u8], at: usize) -> bool
     ensures { result ≡ folds (drop at file.now) }
 {
@@ -29,6 +24,7 @@ fn is_fold(file: &[u8], at: usize) -> bool
 }
 
 // Whether a line feed stands there.
+#[tactic(auto, using(crate::proofs::LineWays::nexts))]
 fn is_feed(file: &[u8], at: usize) -> bool
     ensures { result ≡ starts_with 10 (drop at file.now) }
 {
@@ -38,107 +34,103 @@ fn is_feed(file: &[u8], at: usize) -> bool
     false
 }
 
-pub(crate) fn next(file: &[u8], at: usize, line: u32) -> Step
-    requires { Before file.now at line }
-    ensures { Steps file.now at line result }
+// The next byte of the unfolded line, and the place behind it; nothing at the line's end.
+// No `for`: the steps are of one byte and of two.
+#[tactic(auto, using(crate::proofs::LineWays::nexts))]
+pub(crate) fn next(file: &[u8], from: Place) -> Option<(u8, Place)>
+    requires { Before file.now from.at from.line }
+    ensures { Steps file.now from.at from.line result }
 {
-    let mut i = at;
-    let mut n = line;
-    while i < file.len() {
-        let b = file[i];
+    let mut at = from.at;
+    let mut line = from.line;
+    while at < file.len() {
+        let b = file[at];
         if b == 10 {
-            if is_fold(file, i + 1) {
-                i += 2;
-                n += 1;
+            if is_fold(file, at + 1) {
+                at += 2;
+                line += 1;
             } else {
-                return Step::End;
+                return None;
             }
         } else if b == 13 {
-            if is_feed(file, i + 1) {
-                i += 1;
+            if is_feed(file, at + 1) {
+                at += 1;
             } else {
-                return Step::Byte(b, i + 1, n);
+                return Some((b, Place { at: at + 1, line }));
             }
         } else {
-            return Step::Byte(b, i + 1, n);
+            return Some((b, Place { at: at + 1, line }));
         }
     }
-    Step::End
+    None
+}
+
+// Whether nothing is left of the line.
+#[tactic(auto, using(crate::proofs::WordWays::overs))]
+pub(crate) fn is_over(file: &[u8], from: Place) -> bool
+    requires { Before file.now from.at from.line }
+    ensures { result ≡ is_blank (ahead file.now from.at from.line) }
+{
+    next(file, from).is_none()
 }
 
 // Whether eight bytes stand there, and none of them is a line feed.
 fn is_clear(file: &[u8], at: usize) -> bool
     ensures { Clears file.now at result }
 {
-    if file.len() < 8 {
+    if file.len() < 8 || file.len() - 8 < at {
         return false;
     }
-    if file.len() - 8 < at {
-        return false;
-    }
-    if file[at] == 10 {
-        return false;
-    }
-    if file[at + 1] == 10 {
-        return false;
-    }
-    if file[at + 2] == 10 {
-        return false;
-    }
-    if file[at + 3] == 10 {
-        return false;
-    }
-    if file[at + 4] == 10 {
-        return false;
-    }
-    if file[at + 5] == 10 {
-        return false;
-    }
-    if file[at + 6] == 10 {
-        return false;
-    }
-    if file[at + 7] == 10 {
+    if file[at] == 10
+        || file[at + 1] == 10
+        || file[at + 2] == 10
+        || file[at + 3] == 10
+        || file[at + 4] == 10
+        || file[at + 5] == 10
+        || file[at + 6] == 10
+        || file[at + 7] == 10
+    {
         return false;
     }
     true
 }
 
-// As far along a line as eight bytes at a time go without a line feed.
-fn stride(file: &[u8], at: usize, line: u32) -> usize
-    requires { Before file.now at line }
-    ensures { Skipping file.now at line result line }
+// As far along a line as eight bytes at a time go without a line feed. No `for`: it ends where the bytes do, and not at a bound.
+#[tactic(auto, using(crate::proofs::LineWays::strides))]
+fn stride(file: &[u8], from: Place) -> usize
+    requires { Before file.now from.at from.line }
+    ensures { Skipping file.now from.at from.line result from.line }
 {
-    let mut i = at;
-    loop {
-        if is_clear(file, i) {
-            i += 8;
-        } else {
-            return i;
-        }
+    let mut at = from.at;
+    while is_clear(file, at) {
+        at += 8;
     }
+    at
 }
 
 // The way past an unfolded line, from a place inside it.
-pub(crate) fn skip(file: &[u8], at: usize, line: u32) -> Place
-    requires { Before file.now at line }
-    ensures { Skipped file.now at line result }
+// No `for`: the steps are of one byte and of two. Nor by `next`, which would look at each byte that `stride` passes over.
+#[tactic(auto, using(crate::proofs::LineWays::skips))]
+pub(crate) fn skip(file: &[u8], from: Place) -> Place
+    requires { Before file.now from.at from.line }
+    ensures { Skipped file.now from.at from.line result }
 {
-    let mut i = stride(file, at, line);
-    let mut n = line;
-    while i < file.len() {
-        if file[i] == 10 {
-            if is_fold(file, i + 1) {
-                i += 2;
-                n += 1;
+    let mut at = stride(file, from);
+    let mut line = from.line;
+    while at < file.len() {
+        if file[at] == 10 {
+            if is_fold(file, at + 1) {
+                at += 2;
+                line += 1;
             } else {
                 return Place {
-                    at: i + 1,
-                    line: n + 1,
+                    at: at + 1,
+                    line: line + 1,
                 };
             }
         } else {
-            i += 1;
+            at += 1;
         }
     }
-    Place { at: i, line: n }
+    Place { at, line }
 }

@@ -1,176 +1,155 @@
 // The parameters of a line, and the place of its value.
 ghost use Rattle.std.specs.Prelude.{◌≡◌};
 ghost use Rattle.holidays.specs.Inner.Along.{Before};
-ghost use Rattle.holidays.specs.Inner.Parameters.{KindsOf, Joins, ReadsParameter, ReadsKinds, ReadsValue, Usual};
+ghost use Rattle.holidays.specs.Inner.Pieces.{mark_number};
+ghost use Rattle.holidays.specs.Inner.Parameters.{KindsOf, Joins, Behind, ReadsParameter, ReadsKinds, ReadsValue};
 
+use crate::lines::Place;
 use crate::words;
 
-// What one parameter says of VALUE (0 where it is another), the mark behind it and the place behind that.
-#[derive(Drop)]
+// What parameters say of VALUE: nothing, DATE, DATE-TIME, or anything else.
+#[derive(Clone, Copy, PartialEq, Eq)]
+pub(crate) enum Kind {
+    Unsaid,
+    Date,
+    DateTime,
+    Strange,
+}
+
+// What one parameter says of VALUE, the mark behind it and the place behind that.
+#[derive(Clone, Copy)]
 struct Parameter {
-    kind: u8,
-    mark: u8,
-    at: usize,
-    line: u32,
+    kind: Kind,
+    mark: Option<u8>,
+    place: Place,
 }
 
-// What the parameters say of VALUE, whether the line has a value, and where it starts.
-#[derive(Drop)]
+// What the parameters say of VALUE, and where the line's value starts, if it has one.
+#[derive(Clone, Copy)]
 pub(crate) struct Value {
-    pub(crate) kind: u8,
-    pub(crate) found: bool,
-    pub(crate) at: usize,
-    pub(crate) line: u32,
+    pub(crate) kind: Kind,
+    pub(crate) place: Option<Place>,
 }
 
-fn kind_of(key: u64, word: u64) -> u8
+// The numbers of VALUE, DATE and DATE-TIME.
+const VALUE: u64 = 56668837;
+
+const DATE: u64 = 1181317;
+
+const DATE_TIME: u64 = 39638449923493;
+
+#[tactic(auto, using(crate::proofs::ParameterWays::kinds_are))]
+fn kind_of(key: u64, word: u64) -> Kind
     ensures { KindsOf key word result }
 {
-    if key != 56668837 {
-        return 0;
+    if key != VALUE {
+        return Kind::Unsaid;
     }
-    if word == 1181317 {
-        return 1;
+    if word == DATE {
+        return Kind::Date;
     }
-    if word == 39638449923493 {
-        return 2;
+    if word == DATE_TIME {
+        return Kind::DateTime;
     }
-    3
+    Kind::Strange
 }
 
-fn joined(a: u8, b: u8) -> u8
+// What two parameters say together.
+#[tactic(auto, using(crate::proofs::ParameterWays::kinds_are))]
+fn joined(a: Kind, b: Kind) -> Kind
     ensures { Joins a b result }
 {
-    if a == 0 {
-        return b;
+    match (a, b) {
+        (Kind::Unsaid, kind) => kind,
+        (kind, Kind::Unsaid) => kind,
+        _ => Kind::Strange,
     }
-    if b == 0 {
-        return a;
-    }
-    3
 }
 
-fn read_parameter(file: &[u8], at: usize, line: u32) -> Parameter
-    requires { Before file.now at line }
-    ensures { ReadsParameter file.now at line result }
+#[tactic(auto, using(crate::proofs::ParameterWays::parameters_are))]
+fn read_parameter(file: &[u8], from: Place) -> Parameter
+    requires { Before file.now from.at from.line }
+    ensures { ReadsParameter file.now from.at from.line result }
 {
-    let key = words::read_piece(file, at, line, true, false);
-    if key.mark == 61 {
-        let word = words::read_piece(file, key.at, key.line, false, key.quoted);
+    let key = words::read_piece(file, from, true, false);
+    if key.mark == Some(b'=') {
+        let word = words::read_piece(file, key.place, false, key.quoted);
         return Parameter {
             kind: kind_of(key.number, word.number),
             mark: word.mark,
-            at: word.at,
-            line: word.line,
+            place: word.place,
         };
     }
     Parameter {
         kind: kind_of(key.number, 1),
         mark: key.mark,
-        at: key.at,
-        line: key.line,
+        place: key.place,
+    }
+}
+
+// The place behind a mark, if it is the colon before the value.
+#[tactic(auto, using(crate::proofs::ParameterWays::behinds))]
+fn value_behind(mark: Option<u8>, place: Place) -> Option<Place>
+    ensures { Behind mark place result }
+{
+    match mark {
+        Some(b':') => Some(place),
+        _ => None,
     }
 }
 
 // From behind the first semicolon.
-fn read_kinds(file: &[u8], at: usize, line: u32) -> Value
-    requires { Before file.now at line }
-    ensures { ReadsKinds file.now at line result }
+#[tactic(auto, using(crate::proofs::ParameterWays::kindings))]
+fn read_kinds(file: &[u8], from: Place) -> Value
+    requires { Before file.now from.at from.line }
+    ensures { ReadsKinds file.now from.at from.line result }
 {
-    let mut i = at;
-    let mut n = line;
-    let mut kind = 0;
+    let mut place = from;
+    let mut kind = Kind::Unsaid;
     loop {
-        let p = read_parameter(file, i, n);
+        let p = read_parameter(file, place);
         kind = joined(kind, p.kind);
-        if p.mark == 59 {
-            i = p.at;
-            n = p.line;
+        if p.mark == Some(b';') {
+            place = p.place;
         } else {
             return Value {
                 kind,
-                found: p.mark == 58,
-                at: p.at,
-                line: p.line,
+                place: value_behind(p.mark, p.place),
             };
         }
     }
 }
 
-// Whether VALUE=DATE and a colon stand there in capitals and without a fold, as in nearly every file.
-fn is_usual(file: &[u8], at: usize) -> bool
-    ensures { Usual file.now at result }
+// From behind the first semicolon, where the parameters may be the usual one: VALUE=DATE and a colon in capitals and without a fold,
+// as in nearly every file.
+#[tactic(auto, using(crate::proofs::UsualWays::usual_ways))]
+fn read_usual(file: &[u8], from: Place) -> Value
+    requires { Before file.now from.at from.line }
+    ensures { ReadsKinds file.now from.at from.line result }
 {
-    if file.len() < 11 {
-        return false;
-    }
-    if file.len() - 11 < at {
-        return false;
-    }
-    if file[at] != 86 {
-        return false;
-    }
-    if file[at + 1] != 65 {
-        return false;
-    }
-    if file[at + 2] != 76 {
-        return false;
-    }
-    if file[at + 3] != 85 {
-        return false;
-    }
-    if file[at + 4] != 69 {
-        return false;
-    }
-    if file[at + 5] != 61 {
-        return false;
-    }
-    if file[at + 6] != 68 {
-        return false;
-    }
-    if file[at + 7] != 65 {
-        return false;
-    }
-    if file[at + 8] != 84 {
-        return false;
-    }
-    if file[at + 9] != 69 {
-        return false;
-    }
-    if file[at + 10] != 58 {
-        return false;
-    }
-    true
-}
-
-// From behind the first semicolon, where the parameters may be the usual one.
-fn read_usual(file: &[u8], at: usize, line: u32) -> Value
-    requires { Before file.now at line }
-    ensures { ReadsKinds file.now at line result }
-{
-    if is_usual(file, at) {
+    if words::stands(file, from.at, b"VALUE=DATE:") {
         return Value {
-            kind: 1,
-            found: true,
-            at: at + 11,
-            line,
+            kind: Kind::Date,
+            place: Some(Place {
+                at: from.at + 11,
+                line: from.line,
+            }),
         };
     }
-    read_kinds(file, at, line)
+    read_kinds(file, from)
 }
 
 // From behind a name and the mark that ended it.
-pub(crate) fn read_value(file: &[u8], at: usize, line: u32, mark: u8) -> Value
-    requires { Before file.now at line }
-    ensures { ReadsValue file.now at line mark result }
+#[tactic(auto, using(crate::proofs::ParameterWays::values_are))]
+pub(crate) fn read_value(file: &[u8], from: Place, mark: Option<u8>) -> Value
+    requires { Before file.now from.at from.line }
+    ensures { ReadsValue file.now from.at from.line (mark_number mark) result }
 {
-    if mark == 59 {
-        return read_usual(file, at, line);
+    if mark == Some(b';') {
+        return read_usual(file, from);
     }
     Value {
-        kind: 0,
-        found: mark == 58,
-        at,
-        line,
+        kind: Kind::Unsaid,
+        place: value_behind(mark, from),
     }
 }

@@ -2,23 +2,10 @@
 -- A date given lies in the book; dates passed on inside may lie beyond it, up to 2399.
 -- Assumes nothing.
 use Rattle.std.specs.Prelude.{ℕ, suc, ◌+◌, ◌-◌, ◌/◌, ◌%◌, Bool, true, false, ◌&&◌, ◌||◌, List, [], ◌∷◌, eqb, leb, ltb, get_or, length}
-use Rattle.refusal.specs.Answer.{Answer, given, refused, need, then, BOOK, CODE}
+use Rattle.refusal.specs.Answer.{Answer, given, need, then, BOOK, CODE}
 use Rattle.date.specs.Civil.{fields_of, weekday_of, pick_n}
 use Rattle.date.specs.Date.{in_book, month_index, nth_weekday_of}
-use Rattle.imm.specs.declared.Tested.{Tested}
-use Rattle.imm.specs.declared.Tested.TheVariants as tested-is
 use Rattle.imm.specs.declared.codes.Code.{Code}
-use Rattle.imm.specs.declared.codes.Coded.{Coded}
-use Rattle.imm.specs.declared.codes.Coded.TheVariants as coded-is
-
--- ---- what each case of an answer says: its value, or document 01's number
-unfoldable pub tested : Tested → Answer Bool
-tested (tested-is.Is b) = given b
-tested (tested-is.Refused n) = refused n
-
-unfoldable pub coded : Coded → Answer Code
-coded (coded-is.Code c) = given c
-coded (coded-is.Refused n) = refused n
 
 -- ---- IMM dates
 unfoldable pub main_month : ℕ → Bool

@@ -1,9 +1,7 @@
 // Codes of IMM dates: the month's letter, then the last digit of the year.
-ghost use Rattle.std.specs.Prelude.{◌≡◌, ◌<◌};
-ghost use Rattle.imm.specs.Imm.{coded, main_month, in_cycle, upper, month_of, is_digit, is_pair, code_of, code_after};
-ghost use Rattle.date.specs.Date.{dated};
-
-use date::Dated;
+ghost use Rattle.std.specs.Prelude.{◌≡◌, nat_eq};
+ghost use Rattle.std.specs.List.{position_from};
+ghost use Rattle.imm.specs.Imm.{main_month, in_cycle, letters, month_of, is_pair, code_of};
 
 // The letters of January to December.
 const LETTERS: [u8; 12] = [
@@ -11,88 +9,53 @@ const LETTERS: [u8; 12] = [
 ];
 
 // The bytes of a code: a capital letter and a digit.
-#[derive(Clone, Copy)]
+#[derive(Clone, Copy, Debug, PartialEq, Eq)]
 pub struct Code {
     pub letter: u8,
     pub digit: u8,
 }
 
-#[derive(Clone, Copy)]
-pub enum Coded {
-    Code(Code),
-    Refused(u8),
-}
-
-fn capital(b: u8) -> u8
-    ensures { result ≡ upper b }
+// Where a capital stands among the letters.
+#[tactic(auto, unfolding(crate::specs::Imm::letters))]
+fn place_of(capital: u8) -> Option<usize>
+    ensures { result ≡ position_from (λ l. nat_eq l capital) 0 letters }
 {
-    if b < 97 {
-        return b;
-    }
-    if 122 < b {
-        return b;
-    }
-    b - 32
+    LETTERS.iter().position(|l| *l == capital)
 }
 
-// The month whose letter it is, either case; 13 for a byte that is no month's letter.
+// The month whose letter it is, either case; 13 for a byte that is no month's letter, as definition `month_of` counts it.
 pub(crate) fn month_of(letter: u8) -> u32
     ensures { result ≡ month_of letter }
 {
-    let b = capital(letter);
-    let mut m: u32 = 0;
-    while m < 12 {
-        if LETTERS[m as usize] == b {
-            return m + 1;
-        }
-        m += 1;
-    }
-    13
+    let place = place_of(letter.to_ascii_uppercase()).unwrap_or(LETTERS.len());
+    place as u32 + 1
 }
 
-fn is_digit(b: u8) -> bool
-    ensures { result ≡ is_digit b }
-{
-    48 <= b && b <= 57
-}
-
+#[tactic(auto, unfolding(crate::specs::Imm::main_month))]
 fn is_main_month(month: u32) -> bool
     ensures { result ≡ main_month month }
 {
-    if month == 3 {
-        return true;
-    }
-    if month == 6 {
-        return true;
-    }
-    if month == 9 {
-        return true;
-    }
-    month == 12
+    month == 3 || month == 6 || month == 9 || month == 12
 }
 
 // Whether a month is one of the cycle: each is, but for the main cycle.
+#[tactic(auto, unfolding(crate::specs::Imm::in_cycle))]
 pub(crate) fn in_cycle(main: bool, month: u32) -> bool
     ensures { result ≡ in_cycle main month }
 {
-    if main { is_main_month(month) } else { true }
+    !main || is_main_month(month)
 }
 
+#[tactic(auto, unfolding(crate::specs::Imm::is_pair, crate::specs::Imm::is_digit))]
 pub(crate) fn is_pair(main: bool, letter: u8, digit: u8) -> bool
     ensures { result ≡ is_pair main letter digit }
 {
     let month = month_of(letter);
-    if 12 < month {
-        return false;
-    }
-    if is_digit(digit) {
-        return in_cycle(main, month);
-    }
-    false
+    month <= 12 && digit.is_ascii_digit() && in_cycle(main, month)
 }
 
 // The code of the month and year that day n lies in.
-fn code_of(n: u32) -> Code
+pub(crate) fn code_of(n: u32) -> Code
     ensures { result ≡ code_of n }
 {
     let f = date::civil::fields_of(n);
@@ -100,15 +63,5 @@ fn code_of(n: u32) -> Code
     Code {
         letter: LETTERS[place],
         digit: (f.year % 10) as u8 + 48,
-    }
-}
-
-// The code of a day that was given, or its refusal.
-pub(crate) fn code_after(d: Dated) -> Coded
-    ensures { coded result ≡ code_after (dated d) }
-{
-    match d {
-        Dated::Day(f) => Coded::Code(code_of(f.day)),
-        Dated::Refused(k) => Coded::Refused(k),
     }
 }

@@ -3,52 +3,33 @@
 
 ghost use Rattle.std.specs.Prelude.{◌≡◌, length};
 
-use book::Booked;
 use std::io;
 use std::io::Write;
 
-// A byte more than 64 requests of 65,535 bytes have, so that a longer book is refused. Here and below the `ensures` gives only the
-// length, which lending an array as a slice needs.
-fn input_room() -> [u8; 4194369]
-    ensures { 4194369 ≡ length result }
-{
-    [0; 4194369]
-}
+// A byte more than 64 requests of 65,535 bytes have, so that a longer book is refused.
+const INPUT: usize = 4194369;
 
-// Room for 64 schedules of 4,096 dates, so that no request is refused for those before it.
-fn dates_room() -> [u32; 262144]
-    ensures { 262144 ≡ length result }
-{
-    [0; 262144]
-}
+// 64 schedules of 4,096 dates, so that no request is refused for those before it.
+const DATES: usize = 262144;
 
-fn flags_room() -> [u8; 262144]
-    ensures { 262144 ≡ length result }
-{
-    [0; 262144]
-}
+// Four numbers for each of 64 requests.
+const ANSWERS: usize = 256;
 
-fn answers_room() -> [u32; 256]
-    ensures { 256 ≡ length result }
-{
-    [0; 256]
-}
+// Every text has room in so many bytes (`reply::whole`).
+const TEXT: usize = 106519;
 
-// Room for every text (`reply::whole`).
-fn text_room() -> [u8; 106519]
-    ensures { 106519 ≡ length result }
+// Room for so many numbers. The `ensures` gives only the length, which lending an array as a slice needs. Three programs have it: so weak
+// a contract lets no wrong body through, so that a shared one could have no edit that is refused.
+fn room<T: Copy, const N: usize>(zero: T) -> [T; N]
+    ensures { N ≡ length result }
 {
-    [0; 106519]
-}
-
-fn wide(n: u32) -> usize {
-    n as usize
+    [zero; N]
 }
 
 // Where nobody takes the text, as at a closed pipe, it is lost in silence.
 fn put_text(rt: &impl Print, text: &[u8], count: usize) {
-    if count <= text.len() {
-        let _ = io::writer(rt).write_all(&text[..count]);
+    if let Some(text) = text.get(..count) {
+        let _ = io::writer(rt).write_all(text);
     }
 }
 
@@ -67,9 +48,9 @@ fn print_schedule(
     unadjusted: &[u32],
     text: &mut [u8],
 ) {
-    if count <= dates.len() {
-        if count <= unadjusted.len() {
-            let n = printing::schedule(tries, &dates[..count], flags, &unadjusted[..count], text);
+    if let Some(dates) = dates.get(..count) {
+        if let Some(unadjusted) = unadjusted.get(..count) {
+            let n = printing::schedule(tries, dates, flags, unadjusted, text);
             put_text(rt, text, n);
         }
     }
@@ -84,35 +65,26 @@ fn print_answer(
     unadjusted: &[u32],
     text: &mut [u8],
 ) {
-    if answer.len() < 4 {
+    let [count, start, tries, number] = answer else {
         return;
-    }
-    let start = wide(answer[1]);
-    let number = answer[3];
-    if number != 0 {
-        if number < 256 {
-            print_refusal(rt, number as u8, text);
+    };
+    if *number != 0 {
+        if let Ok(number) = u8::try_from(*number) {
+            print_refusal(rt, number, text);
         }
         return;
     }
-    if dates.len() < start {
+    let start = *start as usize;
+    let Some(dates) = dates.get(start..) else {
         return;
-    }
-    if flags.len() < start {
+    };
+    let Some(flags) = flags.get(start..) else {
         return;
-    }
-    if unadjusted.len() < start {
+    };
+    let Some(unadjusted) = unadjusted.get(start..) else {
         return;
-    }
-    print_schedule(
-        rt,
-        wide(answer[0]),
-        answer[2],
-        &dates[start..],
-        &flags[start..],
-        &unadjusted[start..],
-        text,
-    );
+    };
+    print_schedule(rt, *count as usize, *tries, dates, flags, unadjusted, text);
 }
 
 fn print_answers(
@@ -124,24 +96,18 @@ fn print_answers(
     unadjusted: &[u32],
     text: &mut [u8],
 ) {
-    let mut i: usize = 0;
-    while i < n {
-        if answers.len() / 4 <= i {
-            return;
-        }
-        let place = 4 * i;
-        print_answer(rt, &answers[place..], dates, flags, unadjusted, text);
-        i += 1;
+    for answer in answers.chunks_exact(4).take(n) {
+        print_answer(rt, answer, dates, flags, unadjusted, text);
     }
 }
 
 fn main(rt: HostRuntime) -> io::Result<()> {
-    let mut input = input_room();
-    let mut dates = dates_room();
-    let mut flags = flags_room();
-    let mut unadjusted = dates_room();
-    let mut answers = answers_room();
-    let mut text = text_room();
+    let mut input = room::<u8, INPUT>(0);
+    let mut dates = room::<u32, DATES>(0);
+    let mut flags = room::<u8, DATES>(0);
+    let mut unadjusted = room::<u32, DATES>(0);
+    let mut answers = room::<u32, ANSWERS>(0);
+    let mut text = room::<u8, TEXT>(0);
     let got = reading::fill(&mut rt.reader(), &mut input)?;
     match book::build(
         &input[..got],
@@ -150,8 +116,8 @@ fn main(rt: HostRuntime) -> io::Result<()> {
         &mut unadjusted,
         &mut answers,
     ) {
-        Booked::Refused(k) => print_refusal(&rt, k, &mut text),
-        Booked::Answered(n) => print_answers(
+        Err(refusal) => print_refusal(&rt, refusal.number(), &mut text),
+        Ok(n) => print_answers(
             &rt,
             n as usize,
             &answers,

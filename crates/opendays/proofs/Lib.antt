@@ -4,4 +4,3 @@ pub mod Passing
 pub mod Ranks
 pub mod Filling
 pub mod Moving
-pub mod Ways

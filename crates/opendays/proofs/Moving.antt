@@ -10,11 +10,10 @@ use lib.ListN.{length, get_or, drop}
 use mir.Syntax.{w8, w32}
 use mir.Val.{Fits}
 use borrow.Author.Rules.{rules}
-use borrow.Author.Tests.{not-true, not-false, le-leb, leb-true, leb-false}
-use Rattle.refusal.specs.Answer.{need}
-use Rattle.date.specs.declared.Dated.{Dated}
+use borrow.Author.Tests.{not-true, le-leb, leb-true, leb-false}
+use Rattle.refusal.specs.Answer.{Answer, need}
 use Rattle.date.specs.Civil.{pick_n}
-use Rattle.date.specs.Date.{SPAN_FIRST, SPAN_LAST, dated, within_span, in_book}
+use Rattle.date.specs.Date.{SPAN_FIRST, SPAN_LAST, within_span, in_book}
 use Rattle.calendar.specs.Open.{weekly_closed, member, is_open_day, calendar_ok}
 use Rattle.calendar.specs.Inner.Places.{LowerBound}
 use Rattle.calendar.specs.Laws.Told.{ok_closed}
@@ -83,9 +82,8 @@ module _ {mask : ℕ} {closed : List ℕ} {from k day place : ℕ} (g : Moving m
         let n : ◌≡◌ {A = ℕ} 0 1 = cc in
         omega arith
 
-    pub moving_past : not w ≡ false → Moving mask closed from k day (place + 1)
-    moving_past n =
-        let e : w ≡ true = not-false w n in
+    pub moving_past : w ≡ true → Moving mask closed from k day (place + 1)
+    moving_past e =
         let o : get_or closed place 0 ≡ day → ⊥ = other_day e in
         record {
           sound = g.sound;
@@ -104,9 +102,8 @@ module _ {mask : ℕ} {closed : List ℕ} {from k day place : ℕ} (g : Moving m
           counted = λ to q. g.counted to q ∙ ap (λ (m : ℕ). g.passed + m) (at_weekly mask to closed place h (omega arith) (sym p ∙ e));
         }
 
-    pub moving_on : {next : ℕ} → not w ≡ true → Found (weekly_open mask) (day + 1) 0 7 next → Moving mask closed from k next (place + 1)
-    moving_on {next} n f =
-        let e : w ≡ false = not-true w n in
+    pub moving_on : {next : ℕ} → w ≡ false → Found (weekly_open mask) (day + 1) 0 7 next → Moving mask closed from k next (place + 1)
+    moving_on {next} e f =
         let o : day + 1 ≤ next = f.after.order in
         let b : from ≤ day = g.after.order in
         let c = g.after.counted in
@@ -195,10 +192,10 @@ module _ {mask : ℕ} {closed : List ℕ} {from k day place : ℕ} (g : Moving m
     answer : within_span day ≡ nth_open mask closed from k
     answer = answer_by (leb day SPAN_LAST) refl
 
-  pub moving_stop : (r : Dated) → dated r ≡ within_span day → place < length closed → day < get_or closed place 0 → dated r ≡ nth_open mask closed from k
+  pub moving_stop : (r : Answer ℕ) → r ≡ within_span day → place < length closed → day < get_or closed place 0 → r ≡ nth_open mask closed from k
   moving_stop r e h l = e ∙ answer (λ to b. at_stop mask to closed place h (omega arith))
 
-  pub moving_end : (r : Dated) → dated r ≡ within_span day → length closed ≤ place → dated r ≡ nth_open mask closed from k
+  pub moving_end : (r : Answer ℕ) → r ≡ within_span day → length closed ≤ place → r ≡ nth_open mask closed from k
   moving_end r e h = e ∙ answer (λ to b. at_end_lem mask to closed place h)
 
 pub ruleset moving = (moving_start, sound_weekday, moving_near, moving_some, moving_past, moving_on, moving_stop, moving_end, rules)
@@ -255,7 +252,7 @@ module _ (mask : ℕ) (closed index : List ℕ) (day n rank : ℕ) (r : rank ≡
           pub nth_few : rank + n - count ≤ 300000
           nth_few = omega (arith, most)
 
-          pub nth_is : (a : Dated) → dated a ≡ nth_open mask closed start (rank + n - count) → dated a ≡ nth_by mask closed index day n
+          pub nth_is : (a : Answer ℕ) → a ≡ nth_open mask closed start (rank + n - count) → a ≡ nth_by mask closed index day n
           unfolding nth_by nth_at
           nth_is a e =
               let q : year ≡ year_before index (rank + n) 600 (place_of (day + 1)) 600 = h.same ∙ ap (λ (x : ℕ). year_before index (rank + n) 600 x 600) p in

@@ -114,12 +114,13 @@ module _ {mask : ℕ} {closed : List ℕ} {from to place count : ℕ} (g : Passi
         rest = stop mask to closed place h l ∙ g.same;
       }
 
-  pub pass_end : length closed ≤ place → PassedBy mask to closed (drop from closed) (record { place = place; count = count })
+  pub pass_end : length closed ≤ place → PassedBy mask to closed (drop from closed) (record { place = length closed; count = count })
   pass_end h =
+      let e : length closed ≡ place = omega (arith, g.within) in
       record {
-        within = g.within;
+        within = omega arith;
         count = omega (arith, g.counted, at_end_lem mask to closed place h);
-        rest = ends mask to closed place h ∙ g.same;
+        rest = rw e (ends mask to closed place h ∙ g.same);
       }
 
 pub ruleset passing = (pass_start, pass_weekly, pass_counts, pass_stop, pass_end, rules)

@@ -6,8 +6,6 @@ use Rattle.refusal.specs.Answer.{Answer, given, refused, need, BOOK, CALENDAR, T
 use Rattle.date.specs.Date.{in_book}
 use Rattle.calendar.specs.Open.{weekly_closed, member, is_open_day, calendar_ok}
 use Rattle.calendar.specs.Adjust.{in_span}
-use Rattle.opendays.specs.declared.Changed.{Changed}
-use Rattle.opendays.specs.declared.Changed.TheVariants as changed-is
 use Rattle.opendays.specs.Index.{PLACES, place_of, index_of, count_by, nth_by, onwards}
 
 -- a calendar that keeps its rule and an index of 601 counts come before all else
@@ -77,10 +75,10 @@ unfoldable pub index_after : Answer (List ℕ) → List ℕ → List ℕ
 index_after (given new) old = new
 index_after (refused n) old = old
 
-unfoldable pub changed : Answer (List ℕ) → Changed
-changed (given new) = changed-is.Done
-changed (refused n) = changed-is.Refused n
+unfoldable pub changed : Answer (List ℕ) → Answer (Prim.Unit {0})
+changed (given new) = given tt
+changed (refused n) = refused n
 
-pub record Written (o : Answer (List ℕ)) (r : Changed) (index index' : List ℕ) : Type 0 where
+pub record Written (o : Answer (List ℕ)) (r : Answer (Prim.Unit {0})) (index index' : List ℕ) : Type 0 where
   pub answer : r ≡ changed o
   pub index_after_lem : index' ≡ index_after o index

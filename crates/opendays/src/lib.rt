@@ -2,14 +2,15 @@
 // many open days lie between two dates, and which is the n-th open day after a date, without a walk over the days.
 #![tactic(auto)]
 
-ghost use Rattle.std.specs.Prelude.{◌≡◌, true};
-ghost use Rattle.date.specs.Date.{dated, numbered};
+ghost use Rattle.std.specs.Prelude.{◌≡◌, ◌≤◌, true, IfOk, length};
+ghost use Rattle.refusal.specs.Answer.{answered, given, need, BOOK};
 ghost use Rattle.calendar.specs.Open.{calendar_ok};
 ghost use Rattle.calendar.specs.Adjust.{in_span};
-ghost use Rattle.opendays.specs.OpenDays.{Written, make_of, count_of, nth_of, add_of, remove_of};
+ghost use Rattle.opendays.specs.OpenDays.{indexed, Written, make_of, count_of, nth_of, add_of, remove_of};
 
-use calendar::Checked;
-use date::{Date, Dated, Numbered, in_book, span};
+use calendar::sound::Calendar;
+use date::{Date, span};
+use refusal::Refusal;
 
 // The 601 counts, and what they say of a day.
 mod counts;
@@ -20,12 +21,6 @@ mod search;
 // Days that are not weekly closed.
 mod week;
 
-#[derive(Clone, Copy)]
-pub enum Changed {
-    Done,
-    Refused(u8),
-}
-
 // How many counts an index has: one for the start of each year from 1800 to 2400.
 pub const PLACES: usize = 601;
 
@@ -33,122 +28,114 @@ const MOST_CLOSED: usize = 4096;
 
 const MOST_ASKED: u32 = 366;
 
-fn is_sound(mask: u8, closed: &[u32]) -> bool
-    ensures { result ≡ calendar_ok mask closed.now }
-{
-    let answer = calendar::check(mask, closed);
-    match answer {
-        Checked::Sound => true,
-        Checked::Refused(_) => false,
-    }
+// A calendar that keeps its rule, with 601 counts.
+#[derive(Clone, Copy)]
+pub(crate) struct Index<'a, 'b> {
+    pub(crate) calendar: Calendar<'a>,
+    pub(crate) counts: &'b [u32],
+    ghost sized: { length counts.now ≡ 601 },
 }
 
-fn in_span(day: u32) -> bool
-    ensures { result ≡ in_span day }
+// The rows that come first: a calendar that keeps its rule, and an index of 601 counts.
+#[tactic(auto, unfolding(crate::specs::OpenDays::indexed, calendar::specs::Calendar::check_of, refusal::specs::Answer::need))]
+fn check(mask: u8, closed: &[u32], index: &[u32]) -> Result<(), Refusal>
+    ensures value { answered result ≡ indexed mask closed.now index.now (given tt) }
+    ensures sound { IfOk result (λ _. (calendar_ok mask closed.now ≡ true) × (length index.now ≡ 601)) }
 {
-    span::FIRST <= day && day <= span::LAST
+    calendar::check(mask, closed)?;
+    if index.len() != PLACES {
+        return Err(Refusal::Index);
+    }
+    Ok(())
+}
+
+// The day number, of a date that may be closed: one from 1800 to 2399.
+#[tactic(auto, unfolding(calendar::specs::AnyCalendar::in_span, date::specs::Date::within_span, refusal::specs::Answer::need))]
+fn spanned(date: Date) -> Result<u32, Refusal>
+    ensures value { answered result ≡ need BOOK (in_span date) (given date) }
+    ensures inside { IfOk result (λ day. (657072 ≤ day) × (day ≤ 876216)) }
+{
+    Ok(span::within(date.day as u64)?.day)
 }
 
 // The index of a calendar, into a lent list.
-pub fn make(mask: u8, closed: &[u32], index: &mut [u32]) -> Changed
-    ensures { Written (make_of mask closed.now index.old) result index.old index.new }
+#[tactic(auto, unfolding(crate::specs::OpenDays::make_of, crate::specs::OpenDays::indexed, crate::specs::OpenDays::changed, crate::specs::OpenDays::index_after, refusal::specs::Answer::need))]
+pub fn make(mask: u8, closed: &[u32], index: &mut [u32]) -> Result<(), Refusal>
+    ensures { Written (make_of mask closed.now index.old) (answered result) index.old index.new }
 {
-    if !is_sound(mask, closed) {
-        return Changed::Refused(refusal::CALENDAR);
-    }
-    if index.len() != PLACES {
-        return Changed::Refused(refusal::INDEX);
-    }
-    counts::fill(mask, closed, index);
-    Changed::Done
+    check(mask, closed, index)?;
+    counts::fill(Calendar { mask, closed }, index);
+    Ok(())
 }
 
 // The open days from the first date up to, and without, the last: none if that is not later.
-pub fn count(first: Date, last: Date, mask: u8, closed: &[u32], index: &[u32]) -> Numbered
-    ensures { numbered result ≡ count_of mask closed.now index.now first.day last.day }
+#[tactic(auto, unfolding(crate::specs::OpenDays::count_of, crate::specs::OpenDays::indexed, refusal::specs::Answer::need))]
+pub fn count(
+    first: Date,
+    last: Date,
+    mask: u8,
+    closed: &[u32],
+    index: &[u32],
+) -> Result<u32, Refusal>
+    ensures { answered result ≡ count_of mask closed.now index.now first last }
 {
-    let from = first.day;
-    let to = last.day;
-    if !is_sound(mask, closed) {
-        return Numbered::Refused(refusal::CALENDAR);
-    }
-    if index.len() != PLACES {
-        return Numbered::Refused(refusal::INDEX);
-    }
-    if !in_book(from) {
-        return Numbered::Refused(refusal::BOOK);
-    }
-    if !in_book(to) {
-        return Numbered::Refused(refusal::BOOK);
-    }
-    Numbered::Number(counts::between(mask, closed, index, from, to))
+    check(mask, closed, index)?;
+    let from = first.booked()?;
+    let to = last.booked()?;
+    let index = Index {
+        calendar: Calendar { mask, closed },
+        counts: index,
+    };
+    Ok(counts::between(index, from, to))
 }
 
 // The n-th open day after the date, n from 1 to 366.
-pub fn nth(date: Date, n: u32, mask: u8, closed: &[u32], index: &[u32]) -> Dated
-    ensures { dated result ≡ nth_of mask closed.now index.now date.day n }
+#[tactic(auto, unfolding(crate::specs::OpenDays::nth_of, crate::specs::OpenDays::indexed, refusal::specs::Answer::need))]
+pub fn nth(date: Date, n: u32, mask: u8, closed: &[u32], index: &[u32]) -> Result<Date, Refusal>
+    ensures { answered result ≡ nth_of mask closed.now index.now date n }
 {
-    let day = date.day;
-    if !is_sound(mask, closed) {
-        return Dated::Refused(refusal::CALENDAR);
+    check(mask, closed, index)?;
+    let day = date.booked()?;
+    if n < 1 || MOST_ASKED < n {
+        return Err(Refusal::Tenor);
     }
-    if index.len() != PLACES {
-        return Dated::Refused(refusal::INDEX);
-    }
-    if !in_book(day) {
-        return Dated::Refused(refusal::BOOK);
-    }
-    if n < 1 {
-        return Dated::Refused(refusal::TENOR);
-    }
-    if MOST_ASKED < n {
-        return Dated::Refused(refusal::TENOR);
-    }
-    search::nth_after(mask, closed, index, day, n)
+    let index = Index {
+        calendar: Calendar { mask, closed },
+        counts: index,
+    };
+    search::nth_after(index, day, n)
 }
 
 // The index of the calendar with one closed date more; the list is that of before the change.
-pub fn add(date: Date, mask: u8, closed: &[u32], index: &mut [u32]) -> Changed
-    ensures { Written (add_of mask closed.now index.old date.day) result index.old index.new }
+#[tactic(auto, using(crate::specs::Laws::Years::place_to, calendar::specs::Laws::Told::ok_closed), unfolding(crate::specs::OpenDays::add_of, crate::specs::OpenDays::indexed, crate::specs::OpenDays::changed, crate::specs::OpenDays::index_after, refusal::specs::Answer::need))]
+pub fn add(date: Date, mask: u8, closed: &[u32], index: &mut [u32]) -> Result<(), Refusal>
+    ensures { Written (add_of mask closed.now index.old date) (answered result) index.old index.new }
 {
-    if !is_sound(mask, closed) {
-        return Changed::Refused(refusal::CALENDAR);
-    }
-    if index.len() != PLACES {
-        return Changed::Refused(refusal::INDEX);
-    }
-    if !in_span(date.day) {
-        return Changed::Refused(refusal::BOOK);
-    }
-    if !listed::is_open(mask, closed, date.day) {
-        return Changed::Refused(refusal::SAME);
+    check(mask, closed, index)?;
+    let day = spanned(date)?;
+    if !listed::is_open(mask, closed, day) {
+        return Err(Refusal::Same);
     }
     if MOST_CLOSED <= closed.len() {
-        return Changed::Refused(refusal::FULL);
+        return Err(Refusal::Full);
     }
-    counts::step_from(index, counts::place_of(date.day) + 1, false);
-    Changed::Done
+    counts::step_from(index, counts::place_of(day) + 1, false);
+    Ok(())
 }
 
 // The index of the calendar with one closed date less; the list is that of before the change.
-pub fn remove(date: Date, mask: u8, closed: &[u32], index: &mut [u32]) -> Changed
-    ensures { Written (remove_of mask closed.now index.old date.day) result index.old index.new }
+#[tactic(auto, using(crate::specs::Laws::Years::place_to, calendar::specs::Laws::Told::ok_closed), unfolding(crate::specs::OpenDays::remove_of, crate::specs::OpenDays::unless_weekly, crate::specs::OpenDays::indexed, crate::specs::OpenDays::changed, crate::specs::OpenDays::index_after, refusal::specs::Answer::need))]
+pub fn remove(date: Date, mask: u8, closed: &[u32], index: &mut [u32]) -> Result<(), Refusal>
+    ensures { Written (remove_of mask closed.now index.old date) (answered result) index.old index.new }
 {
-    if !is_sound(mask, closed) {
-        return Changed::Refused(refusal::CALENDAR);
+    check(mask, closed, index)?;
+    let day = spanned(date)?;
+    if !listed::is_listed(closed, day) {
+        return Err(Refusal::Same);
     }
-    if index.len() != PLACES {
-        return Changed::Refused(refusal::INDEX);
+    if week::is_weekly_closed(mask, day) {
+        return Ok(());
     }
-    if !in_span(date.day) {
-        return Changed::Refused(refusal::BOOK);
-    }
-    if !listed::is_listed(closed, date.day) {
-        return Changed::Refused(refusal::SAME);
-    }
-    if week::is_weekly_closed(mask, date.day) {
-        return Changed::Done;
-    }
-    counts::step_from(index, counts::place_of(date.day) + 1, true);
-    Changed::Done
+    counts::step_from(index, counts::place_of(day) + 1, true);
+    Ok(())
 }

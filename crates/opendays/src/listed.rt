@@ -1,10 +1,10 @@
 // Closed dates of a stretch of days. A date that is weekly closed, too, is passed over: the week has it already.
 ghost use Rattle.std.specs.Prelude.{◌≡◌, true, ◌≤◌, length, drop};
 ghost use Rattle.calendar.specs.Open.{closed_ok, member, is_open_day};
-ghost use Rattle.calendar.specs.Inner.Places.{LowerBound};
 ghost use Rattle.opendays.specs.Inner.Steps.{PassedBy};
 
 use crate::week;
+use calendar::closed_dates;
 
 #[derive(Drop)]
 pub(crate) struct Passed {
@@ -12,33 +12,18 @@ pub(crate) struct Passed {
     pub(crate) count: u32,
 }
 
-// The first place whose date is at least x, or the length.
-pub(crate) fn lower_bound(closed: &[u32], x: u32) -> usize
-    ensures { LowerBound closed.now x result }
-{
-    let mut lo = 0;
-    let mut hi = closed.len();
-    while lo < hi {
-        let mid = lo + (hi - lo) / 2;
-        if closed[mid] < x {
-            lo = mid + 1;
-        } else {
-            hi = mid;
-        }
-    }
-    lo
-}
-
+#[tactic(auto, using(crate::proofs::Places::listing))]
 pub(crate) fn is_listed(closed: &[u32], x: u32) -> bool
     ensures { closed_ok closed.now ≡ true → result ≡ member x closed.now }
 {
-    let place = lower_bound(closed, x);
+    let place = closed_dates::lower_bound(closed, x);
     if place < closed.len() {
         return closed[place] == x;
     }
     false
 }
 
+#[tactic(auto, using(crate::proofs::Places::listing))]
 pub(crate) fn is_open(mask: u8, closed: &[u32], day: u32) -> bool
     ensures { closed_ok closed.now ≡ true → result ≡ is_open_day mask closed.now day }
 {
@@ -53,19 +38,19 @@ pub(crate) fn pass(mask: u8, closed: &[u32], from: usize, to: u32) -> Passed
     requires { (from ≤ length closed.now) × (length closed.now ≤ 4096) }
     ensures { PassedBy mask to closed.now (drop from closed.now) result }
 {
-    let mut place = from;
     let mut count = 0;
-    while place < closed.len() {
+    for place in from..closed.len() {
         let x = closed[place];
         if to <= x {
             return Passed { place, count };
         }
         if week::is_weekly_closed(mask, x) {
-            place += 1;
-        } else {
-            count += 1;
-            place += 1;
+            continue;
         }
+        count += 1;
     }
-    Passed { place, count }
+    Passed {
+        place: closed.len(),
+        count,
+    }
 }

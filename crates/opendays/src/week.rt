@@ -14,6 +14,7 @@ fn is_masked(weekday: u32, mask: u8) -> bool
     (mask >> weekday) % 2 == 1
 }
 
+#[tactic(auto, using(crate::proofs::Weeks::masking))]
 pub(crate) fn is_weekly_closed(mask: u8, day: u32) -> bool
     ensures { result ≡ weekly_closed mask day }
 {
@@ -26,14 +27,11 @@ fn count_few(mask: u8, from: u32, n: u32) -> u32
     ensures { result ≡ tally (weekly_open mask) from n }
 {
     let mut count = 0;
-    let mut i = 0;
-    while i < n {
+    for i in 0..n {
         if is_weekly_closed(mask, from + i) {
-            i += 1;
-        } else {
-            count += 1;
-            i += 1;
+            continue;
         }
+        count += 1;
     }
     count
 }
@@ -53,7 +51,8 @@ pub(crate) fn count_weekly(mask: u8, each: u32, from: u32, n: u32) -> u32
     n / 7 * each + count_few(mask, from, n % 7)
 }
 
-// The day of the seven from a day on, that is not weekly closed, with so many such days before it.
+// The day of the seven from a day on, that is not weekly closed, with so many such days before it. A `for` over the seven would need an answer
+// after its end, which is never reached.
 pub(crate) fn find_in_week(mask: u8, from: u32, before: u32) -> u32
     requires { (from ≤ 4000000) × (before < tally (weekly_open mask) 1 7) }
     ensures { Found (weekly_open mask) from before 7 result }

@@ -1,26 +1,24 @@
 -- A law for each test on the way through the first two dates of a forward build: which of its ways the definition goes.
 -- Assumes nothing.
 use mathlib.Core.Path.{◌≡◌, refl, sym, ◌∙◌}
-use mathlib.Core.Bool.{Bool, true, false, ◌&&◌}
+use mathlib.Core.Bool.{Bool, true, false}
 use mathlib.Core.List.{List}
-use Prim.Native.Nat.{ℕ, zero, suc, ◌+◌, ◌-◌, ◌≤◌, ◌<◌}
-use native.Mathlib.Omega.{arith}
+use Prim.Native.Nat.{ℕ, zero, suc, ◌+◌, ◌≤◌, ◌<◌}
 use lib.Dec.{eqb, ltb}
 use lib.ListN.{length}
 use lib.IntN.{nat_abs}
 use borrow.Author.Rules.{rules}
 use borrow.Author.Tests.{eq-eqb, ne_eqb, lt-ltb, le-ltb}
-use Rattle.refusal.specs.Answer.{Answer, given, refused, then, ROOM}
-use Rattle.refusal.specs.Laws.Answers.{fails, holds, then_given, then_refused}
-use Rattle.date.specs.declared.Date.{Date}
-use Rattle.date.specs.declared.Dated.{Dated}
-use Rattle.date.specs.declared.Dated.TheVariants as dated-is
-use Rattle.date.specs.Date.{SPAN_LAST, dated}
-use Rattle.date.specs.Laws.Made.{given_day, refused_day}
+use Rattle.std.specs.Prelude.{Result, Ok, Err, IsErr, IsErrAnd}
+use Rattle.refusal.specs.declared.Refusal.{Refusal}
+use Rattle.refusal.specs.Refusals.{number_of}
+use Rattle.refusal.specs.Answer.{Answer, given, refused, answered, then, ROOM}
+use Rattle.refusal.specs.Laws.Answers.{fails, holds, then_given, then_refused, was_given, was_refused, handed_on}
+use Rattle.date.specs.Date.{SPAN_LAST}
 use Rattle.calendar.specs.Adjust.{advanced}
 use Rattle.steps.specs.declared.Rule.{Rule}
 use Rattle.steps.specs.declared.Request.{Request}
-use Rattle.steps.specs.Rules.{is_credit, is_old_cds, on_twentieths}
+use Rattle.steps.specs.Rules.{is_credit, on_twentieths}
 use Rattle.steps.specs.Twentieths.{next_twentieth, previous_twentieth}
 use Rattle.steps.specs.Generate.{Lists, Opened, nothing, newest, put, put_earlier, credit_opening, opening_by, opening, far_enough, is_near, coming_twentieth, put_seed, put_coming, put_twentieth, tenor_on, put_first, second}
 use Rattle.steps.specs.Finish.{same_flag}
@@ -28,10 +26,10 @@ use Rattle.working.specs.Step.{Gives, refuses, gives_as}
 use Rattle.working.specs.Part.{Work, Part, Placed, Begun, Fresh, held, last_day, fills}
 use Rattle.working.specs.Dates.{dates, regrouped}
 use Rattle.working.specs.Held.{no_room, has_room, newest_read}
-use Rattle.opening.specs.declared.Opening.TheVariants as opening-is
+use Rattle.opening.specs.declared.Opening.{Opening}
 use Rattle.opening.specs.First.{firsts}
 use Rattle.opening.specs.Opening as opens_as
-use Rattle.opening.specs.Opening.{opened_by, opened_ready, opens}
+use Rattle.opening.specs.Opening.{opened_at, opened_ready, opens}
 use Rattle.opening.proofs.Spans.{next_span}
 
 pub fresh_part : {closed : List ℕ} {room n : ℕ} {w : Work} → Fresh closed room n w → Part room n w
@@ -48,51 +46,34 @@ module _ {C : Type 0} {view : C → Lists} {Keeps : C → Type 0} {r : Answer C}
     credit_put h g = rw (le-ltb effective a h) g
 
   module _ (q : Request) (closed : List ℕ) (room : ℕ) (b : Bool) (p : b ≡ is_credit q.rule) where
-    pub opening_effective : b ≡ false → Gives view Keeps (put room q.effective.day 1 nothing) r → Gives view Keeps (opening q closed room) r
+    pub opening_effective : b ≡ false → Gives view Keeps (put room q.effective 1 nothing) r → Gives view Keeps (opening q closed room) r
     unfolding opening opening_by
     opening_effective e g = rw (sym p ∙ e) g
 
-    pub opening_credit : b ≡ true → Gives view Keeps (then (previous_twentieth q.rule q.effective.day) (credit_opening q closed room)) r → Gives view Keeps (opening q closed room) r
+    pub opening_credit : b ≡ true → Gives view Keeps (then (previous_twentieth q.rule q.effective) (credit_opening q closed room)) r → Gives view Keeps (opening q closed room) r
     unfolding opening opening_by
     opening_credit e g = rw (sym p ∙ e) g
 
 pub ruleset first_date = (credit_earlier, credit_put, opening_effective, opening_credit, regrouped, dates, fills, firsts, fresh_part, rules)
 
 -- ---- the coming twentieth
-near_go : (a b : Bool) → a ≡ true → b ≡ (a && b)
-near_go a b e = rw e refl
-
-module _ (rule : Rule) (effective day : ℕ) (b : Bool) (p : b ≡ is_old_cds rule) where
-  module _ (old : b ≡ true) where
-    pub near_past : day < effective → true ≡ is_near rule effective day
-    unfolding is_near
-    near_past h = sym (lt-ltb (day - effective) 30 (omega arith)) ∙ near_go (is_old_cds rule) (ltb (day - effective) 30) (sym p ∙ old)
-
-    pub near_count : ltb (day - effective) 30 ≡ is_near rule effective day
-    unfolding is_near
-    near_count = near_go (is_old_cds rule) (ltb (day - effective) 30) (sym p ∙ old)
-
-  pub near_not : b ≡ false → false ≡ is_near rule effective day
-  unfolding is_near
-  near_not e = rw (sym p ∙ e) refl
-
-module _ (rule : Rule) (effective : ℕ) (next : Dated) (s : dated next ≡ next_twentieth rule effective) where
-  pub coming_stop : (k : ℕ) → next ≡ dated-is.Refused k → refused k ≡ coming_twentieth rule effective
+module _ (rule : Rule) (effective : ℕ) (next : Result ℕ Refusal) (s : answered next ≡ next_twentieth rule effective) where
+  pub coming_stop : (k : Refusal) → next ≡ Err k → (r : Result ℕ Refusal) → IsErr r × IsErrAnd r (λ j. j ≡ k) → answered r ≡ coming_twentieth rule effective
   unfolding coming_twentieth
-  coming_stop k e = then_refused _ k _ (refused_day next k _ s e)
+  coming_stop k e r h = handed_on r k h ∙ then_refused _ (number_of k) _ (was_refused next k _ s e)
 
-  module _ (d : Date) (e : next ≡ dated-is.Day d) where
-    pub coming_few : d.day ≤ SPAN_LAST
-    coming_few = (next_span rule effective d.day (given_day next d _ s e)).high
+  module _ (d : ℕ) (e : next ≡ Ok d) where
+    pub coming_few : d ≤ SPAN_LAST
+    coming_few = (next_span rule effective d (was_given next d _ s e)).high
 
-    module _ (b : Bool) (p : b ≡ is_near rule effective d.day) where
-      pub coming_far : b ≡ true → next_twentieth rule (d.day + 1) ≡ coming_twentieth rule effective
+    module _ (b : Bool) (p : b ≡ is_near rule effective d) where
+      pub coming_far : b ≡ true → next_twentieth rule (d + 1) ≡ coming_twentieth rule effective
       unfolding coming_twentieth far_enough
-      coming_far h = then_given _ d.day _ _ (given_day next d _ s e) (rw (sym p ∙ h) refl)
+      coming_far h = then_given _ d _ _ (was_given next d _ s e) (rw (sym p ∙ h) refl)
 
-      pub coming_here : b ≡ false → given d.day ≡ coming_twentieth rule effective
+      pub coming_here : b ≡ false → given d ≡ coming_twentieth rule effective
       unfolding coming_twentieth far_enough
-      coming_here h = then_given _ d.day _ _ (given_day next d _ s e) (rw (sym p ∙ h) refl)
+      coming_here h = then_given _ d _ _ (was_given next d _ s e) (rw (sym p ∙ h) refl)
 
 -- ---- the second date
 -- the seed that the code read is the newest date
@@ -100,7 +81,7 @@ module _ {room n : ℕ} {w : Work} (p : Placed room n w) (day : ℕ) (at : lengt
   here : day ≡ newest (held false n w)
   here = newest_read false day p.part at
 
-  pub newest_seed : Gives (opens_as.opening w) (λ (o : ℕ × ℕ). Placed room o.0 w) (given (record { lists = held false n w; seed = newest (held false n w) })) (opened_by (opening-is.Ready n day))
+  pub newest_seed : Gives (λ (o : Opening). opens_as.opening w o.n o.seed) (λ o. Placed room o.n w) (given (record { lists = held false n w; seed = newest (held false n w) })) (given (opened_at n day))
   newest_seed = rw (← here) (opened_ready p)
 
 some_is : (q : Request) (closed : List ℕ) (room : ℕ) (l : Lists) (x : ℕ) → (x ≡ 0 → ⊥) → put_first q closed room l ≡ second x q closed room l
@@ -110,25 +91,25 @@ some_is q closed room l (suc x) h = refl
 
 module _ {C : Type 0} {view : C → Opened} {Keeps : C → Type 0} {r : Answer C} (q : Request) (room : ℕ) (l : Lists) where
   module _ (day : ℕ) where
-    pub coming_same : day ≡ q.effective.day → Gives view Keeps (given (record { lists = l; seed = newest l })) r → Gives view Keeps (put_coming (eqb day q.effective.day) q room day l) r
+    pub coming_same : day ≡ q.effective → Gives view Keeps (given (record { lists = l; seed = newest l })) r → Gives view Keeps (put_coming (eqb day q.effective) q room day l) r
     unfolding put_coming
-    coming_same e g = rw (eq-eqb day q.effective.day e) g
+    coming_same e g = rw (eq-eqb day q.effective e) g
 
-    module _ (h : day ≡ q.effective.day → ⊥) (b : Bool) (p : b ≡ is_credit q.rule) where
-      pub coming_credit : b ≡ true → Gives view Keeps (put_seed room day 1 l) r → Gives view Keeps (put_coming (eqb day q.effective.day) q room day l) r
+    module _ (h : day ≡ q.effective → ⊥) (b : Bool) (p : b ≡ is_credit q.rule) where
+      pub coming_credit : b ≡ true → Gives view Keeps (put_seed room day 1 l) r → Gives view Keeps (put_coming (eqb day q.effective) q room day l) r
       unfolding put_coming
-      coming_credit e g = rw (ne_eqb day q.effective.day h, sym p ∙ e) g
+      coming_credit e g = rw (ne_eqb day q.effective h, sym p ∙ e) g
 
-      pub coming_plain : b ≡ false → Gives view Keeps (put_seed room day 0 l) r → Gives view Keeps (put_coming (eqb day q.effective.day) q room day l) r
+      pub coming_plain : b ≡ false → Gives view Keeps (put_seed room day 0 l) r → Gives view Keeps (put_coming (eqb day q.effective) q room day l) r
       unfolding put_coming
-      coming_plain e g = rw (ne_eqb day q.effective.day h, sym p ∙ e) g
+      coming_plain e g = rw (ne_eqb day q.effective h, sym p ∙ e) g
 
   module _ (b : Bool) (p : b ≡ on_twentieths q.rule) where
     pub twentieth_none : b ≡ false → Gives view Keeps (given (record { lists = l; seed = newest l })) r → Gives view Keeps (put_twentieth (on_twentieths q.rule) q room l) r
     unfolding put_twentieth
     twentieth_none e g = rw (sym p ∙ e) g
 
-    pub twentieth_on : b ≡ true → Gives view Keeps (then (coming_twentieth q.rule q.effective.day) (λ day. put_coming (eqb day q.effective.day) q room day l)) r → Gives view Keeps (put_twentieth (on_twentieths q.rule) q room l) r
+    pub twentieth_on : b ≡ true → Gives view Keeps (then (coming_twentieth q.rule q.effective) (λ day. put_coming (eqb day q.effective) q room day l)) r → Gives view Keeps (put_twentieth (on_twentieths q.rule) q room l) r
     unfolding put_twentieth
     twentieth_on e g = rw (sym p ∙ e) g
 
@@ -146,7 +127,7 @@ module _ {C : Type 0} {view : C → Opened} {Keeps : C → Type 0} {r : Answer C
   unfolding put_first
   first_full h e = rw e (refuses ROOM (fails ROOM _ _ (no_room false p.part h)))
 
-  pub first_on : (day : ℕ) → n < room → (length w.days ≡ 4096 → n < 4097 → day ≡ last_day false n w.days) → Gives view Keeps (then (tenor_on q closed day) (λ d. put_seed room q.first.day (same_flag d q.first.day) (held false n w))) r → Gives view Keeps (put_first q closed room (held false n w)) r
+  pub first_on : (day : ℕ) → n < room → (length w.days ≡ 4096 → n < 4097 → day ≡ last_day false n w.days) → Gives view Keeps (then (tenor_on q closed day) (λ d. put_seed room q.first (same_flag d q.first) (held false n w))) r → Gives view Keeps (put_first q closed room (held false n w)) r
   unfolding put_first
   first_on day h at g =
       let e : day ≡ newest (held false n w) = newest_read false day p.part at in

@@ -6,7 +6,7 @@ ghost use Rattle.steps.specs.Generate.{opened};
 ghost use Rattle.working.specs.Part.{working, Fresh};
 ghost use Rattle.opening.specs.Opening.{OpensForward};
 
-use first::First;
+use refusal::Refusal;
 use steps::Request;
 use working::Begin;
 
@@ -16,17 +16,17 @@ mod first;
 mod second;
 
 // How many dates there are after the second, and the seed.
-#[derive(Drop)]
-pub(crate) enum Opening {
-    Ready { n: usize, seed: u32 },
-    Refused(u8),
+#[derive(Clone, Copy)]
+pub(crate) struct Opening {
+    pub(crate) n: usize,
+    pub(crate) seed: u32,
 }
 
 // How many dates there are then, what one of them is known to adjust to, and the seed.
 #[derive(Clone, Copy)]
-pub enum Opened {
-    Ready { begin: Begin, seed: u32 },
-    Refused(u8),
+pub struct Opened {
+    pub begin: Begin,
+    pub seed: u32,
 }
 
 // The first two dates.
@@ -36,22 +36,17 @@ pub fn open_forward(
     room: usize,
     work: &mut [u32],
     marks: &mut [u8],
-) -> Opened
+) -> Result<Opened, Refusal>
     ensures { OpensForward (adjusted q.mask closed.now q.convention) (Fresh closed.now room) room (λ _. opened q closed.now room) 0 (working work.old marks.old) result (working work.new marks.new) }
 {
-    let begin = match first::put_opening(q, closed, room, work, marks) {
-        First::Refused(k) => return Opened::Refused(k),
-        First::Ready(begin) => begin,
-    };
-    let second = second::put_second(q, closed, room, begin.n, work, marks);
-    match second {
-        Opening::Refused(k) => Opened::Refused(k),
-        Opening::Ready { n, seed } => {
-            let sure = begin.sure;
-            Opened::Ready {
-                begin: Begin { n, sure },
-                seed,
-            }
-        }
-    }
+    let q = &q;
+    let begin = first::put_opening(q, closed, room, work, marks)?;
+    let opening = second::put_second(q, closed, room, begin.n, work, marks)?;
+    Ok(Opened {
+        begin: Begin {
+            n: opening.n,
+            sure: begin.sure,
+        },
+        seed: opening.seed,
+    })
 }

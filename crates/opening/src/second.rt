@@ -1,6 +1,6 @@
 // The second date of a forward build: the request's first date, or a twentieth.
 ghost use Rattle.std.specs.Prelude.{◌≡◌, true, eqb};
-ghost use Rattle.date.specs.Date.{dated};
+ghost use Rattle.refusal.specs.Answer.{answered};
 ghost use Rattle.calendar.specs.Open.{closed_ok};
 ghost use Rattle.steps.specs.Rules.{on_twentieths};
 ghost use Rattle.steps.specs.Generate.{coming_twentieth, is_near, put_seed, put_coming, put_twentieth, put_first, tenor_on, second};
@@ -9,12 +9,13 @@ ghost use Rattle.opening.specs.Opening.{Opens};
 
 use crate::Opening;
 use calendar::{advances, moves};
-use date::Dated;
+use date::Date;
 use period::sign;
+use refusal::Refusal;
 use steps::{Request, Rule, flags, rules, twentieths};
-use working::{Filled, lists};
+use working::lists;
 
-// A date that becomes the seed.
+// A date that becomes the seed. `lists::put` answers the count alone, since no other date that is put is one.
 fn put_seed(
     n: usize,
     room: usize,
@@ -22,59 +23,48 @@ fn put_seed(
     mark: u8,
     work: &mut [u32],
     marks: &mut [u8],
-) -> Opening
+) -> Result<Opening, Refusal>
     ensures { Opens (Part room) room (put_seed room day mark) n (working work.old marks.old) result (working work.new marks.new) }
 {
-    let m = match lists::put(false, n, room, day, mark, work, marks) {
-        Filled::Refused(k) => return Opening::Refused(k),
-        Filled::Ready(m) => m,
-    };
-    Opening::Ready { n: m, seed: day }
+    let m = lists::put(false, n, room, day, mark, work, marks)?;
+    Ok(Opening { n: m, seed: day })
 }
 
 // OldCDS passes over a twentieth under 30 days after the effective date.
+#[tactic(auto, unfolding(steps::specs::Generate::is_near))]
 fn is_near(rule: Rule, effective: u32, day: u32) -> bool
     ensures { result ≡ is_near rule effective day }
 {
-    if rules::is_old_cds(rule) {
-        if day < effective {
-            return true;
-        }
-        return day - effective < 30;
-    }
-    false
+    rules::is_old_cds(rule) && day.saturating_sub(effective) < 30
 }
 
-fn coming_twentieth(rule: Rule, effective: u32) -> Dated
-    ensures { dated result ≡ coming_twentieth rule effective }
+fn coming_twentieth(rule: Rule, effective: u32) -> Result<Date, Refusal>
+    ensures { answered result ≡ coming_twentieth rule effective }
 {
-    let next = match twentieths::next(effective, rule) {
-        Dated::Refused(k) => return Dated::Refused(k),
-        Dated::Day(d) => d,
-    };
-    if is_near(rule, effective, next.day) {
-        return twentieths::next(next.day + 1, rule);
+    let coming = twentieths::next(effective, rule)?;
+    if is_near(rule, effective, coming.day) {
+        return twentieths::next(coming.day + 1, rule);
     }
-    Dated::Day(next)
+    Ok(coming)
 }
 
 // The coming twentieth, unless it is the effective date itself.
 fn put_coming(
-    q: Request,
+    q: &Request,
     room: usize,
     day: u32,
     n: usize,
     work: &mut [u32],
     marks: &mut [u8],
-) -> Opening
-    ensures { Opens (Placed room) room (put_coming (eqb day q.effective.day) q room day) n (working work.old marks.old) result (working work.new marks.new) }
+) -> Result<Opening, Refusal>
+    ensures { Opens (Placed room) room (put_coming (eqb day q.now.effective) q.now room day) n (working work.old marks.old) result (working work.new marks.new) }
 {
     let rule = q.rule;
     if day == q.effective.day {
-        return Opening::Ready {
+        return Ok(Opening {
             n,
             seed: lists::newest(false, n, work),
-        };
+        });
     }
     if rules::is_credit(rule) {
         return put_seed(n, room, day, 1, work, marks);
@@ -83,41 +73,41 @@ fn put_coming(
 }
 
 // The second date of the rules on twentieths; the others have none.
-fn put_twentieth(q: Request, room: usize, n: usize, work: &mut [u32], marks: &mut [u8]) -> Opening
-    ensures { Opens (Placed room) room (put_twentieth (on_twentieths q.rule) q room) n (working work.old marks.old) result (working work.new marks.new) }
+fn put_twentieth(
+    q: &Request,
+    room: usize,
+    n: usize,
+    work: &mut [u32],
+    marks: &mut [u8],
+) -> Result<Opening, Refusal>
+    ensures { Opens (Placed room) room (put_twentieth (on_twentieths q.now.rule) q.now room) n (working work.old marks.old) result (working work.new marks.new) }
 {
     let rule = q.rule;
     if rules::on_twentieths(rule) {
-        let coming = match coming_twentieth(rule, q.effective.day) {
-            Dated::Refused(k) => return Opening::Refused(k),
-            Dated::Day(d) => d,
-        };
+        let coming = coming_twentieth(rule, q.effective.day)?;
         return put_coming(q, room, coming.day, n, work, marks);
     }
-    Opening::Ready {
+    Ok(Opening {
         n,
         seed: lists::newest(false, n, work),
-    }
+    })
 }
 
 // The first date: regular if it is one tenor on the given calendar after the date before it.
 fn put_first(
-    q: Request,
+    q: &Request,
     closed: &[u32],
     room: usize,
     n: usize,
     work: &mut [u32],
     marks: &mut [u8],
-) -> Opening
-    ensures { Opens (Begun closed.now room) room (put_first q closed.now room) n (working work.old marks.old) result (working work.new marks.new) }
+) -> Result<Opening, Refusal>
+    ensures { Opens (Begun closed.now room) room (put_first q.now closed.now room) n (working work.old marks.old) result (working work.new marks.new) }
 {
     if room <= n {
-        return Opening::Refused(refusal::ROOM);
+        return Err(Refusal::Room);
     }
-    let next = match tenor_on(q, closed, lists::newest(false, n, work)) {
-        Dated::Refused(k) => return Opening::Refused(k),
-        Dated::Day(d) => d,
-    };
+    let next = tenor_on(q, closed, lists::newest(false, n, work))?;
     let first = q.first.day;
     put_seed(
         n,
@@ -130,8 +120,8 @@ fn put_first(
 }
 
 // One tenor on, on the given calendar.
-fn tenor_on(q: Request, closed: &[u32], day: u32) -> Dated
-    ensures { closed_ok closed.now ≡ true → dated result ≡ tenor_on q closed.now day }
+fn tenor_on(q: &Request, closed: &[u32], day: u32) -> Result<Date, Refusal>
+    ensures { closed_ok closed.now ≡ true → answered result ≡ tenor_on q.now closed.now day }
 {
     let tenor = q.tenor;
     let unit = tenor.unit;
@@ -143,14 +133,14 @@ fn tenor_on(q: Request, closed: &[u32], day: u32) -> Dated
 }
 
 pub(crate) fn put_second(
-    q: Request,
+    q: &Request,
     closed: &[u32],
     room: usize,
     n: usize,
     work: &mut [u32],
     marks: &mut [u8],
-) -> Opening
-    ensures { Opens (Begun closed.now room) room (second q.first.day q closed.now room) n (working work.old marks.old) result (working work.new marks.new) }
+) -> Result<Opening, Refusal>
+    ensures { Opens (Begun closed.now room) room (second q.now.first q.now closed.now room) n (working work.old marks.old) result (working work.new marks.new) }
 {
     if q.first.day == 0 {
         return put_twentieth(q, room, n, work, marks);

@@ -59,9 +59,9 @@ module _ (rule : Rule) (d t : ℕ) where
 
 -- ---- the steps of a build, and the public functions
 module _ (rule : Rule) (d : ℕ) where
-  in_book_lem : {P : ℕ → Type 0} {x : Answer ℕ} → in_book d ≡ true → Gives P x → Gives P (need BOOK (in_book d) x)
+  past_book : {P : ℕ → Type 0} {x : Answer ℕ} → in_book d ≡ true → Gives P x → Gives P (need BOOK (in_book d) x)
   unfolding need
-  in_book_lem b g = rw b g
+  past_book b g = rw b g
 
   module _ (b : in_book d ≡ true) where
     pub previous_from : Gives (Latest rule d) (previous_twentieth rule d)
@@ -74,11 +74,11 @@ module _ (rule : Rule) (d : ℕ) where
 
     pub previous_latest : Gives (Latest rule d) (previous_twentieth_of rule d)
     unfolding previous_twentieth_of
-    previous_latest = in_book_lem b previous_from
+    previous_latest = past_book b previous_from
 
     pub next_earliest : Gives (Earliest rule d) (next_twentieth_of rule d)
     unfolding next_twentieth_of
-    next_earliest = in_book_lem b next_from_lem
+    next_earliest = past_book b next_from_lem
 
     -- a date of the grid is its own on both sides
     pub grid_itself : Grid rule d → (previous_twentieth_of rule d ≡ given d) × (next_twentieth_of rule d ≡ given d)

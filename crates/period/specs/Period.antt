@@ -1,17 +1,11 @@
 -- Multiplying a period by a count (document 01, module 2).
 -- Assumes nothing.
-use Rattle.std.specs.Prelude.{Bool, true, false, ◌&&◌, ℤ, pos, negsuc, ◌*ℤ◌}
+use Rattle.std.specs.Prelude.{ℕ, [], ◌∷◌, Bool, true, false, ◌&&◌, ℤ, pos, negsuc, ◌*ℤ◌}
 use Rattle.std.specs.Int.Signed.{le_z, lt_z}
-use Rattle.refusal.specs.Answer.{Answer, given, refused, need, TENOR}
+use Rattle.refusal.specs.Answer.{Answer, given, need, at_place, TENOR}
 use Rattle.period.specs.declared.Unit.{Unit}
+use Rattle.period.specs.declared.Unit.TheVariants.{Days, Weeks, Months, Years}
 use Rattle.period.specs.declared.Period.{Period}
-use Rattle.period.specs.declared.Product.{Product}
-use Rattle.period.specs.declared.Product.TheVariants as product_is
-
--- what each case of an answer says
-unfoldable pub product : Product → Answer Period
-product (product_is.Period p) = given p
-product (product_is.Refused n) = refused n
 
 abbrev pub is_negative : ℤ → Bool
 is_negative (pos n) = false
@@ -26,3 +20,7 @@ fits32 z = le_z (negsuc 2147483647) z && le_z z (pos 2147483647)
 
 unfoldable pub times_of : ℤ → Unit → ℤ → Answer Period
 times_of length unit count = need TENOR (fits32 (length *ℤ count)) (given (record { length = length *ℤ count; unit = unit }))
+
+-- the units in document 01's order: a unit's number is its place
+abbrev pub unit_of : ℕ → Answer Unit
+unit_of = at_place (Days ∷ Weeks ∷ Months ∷ Years ∷ [])

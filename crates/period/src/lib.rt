@@ -2,12 +2,15 @@
 #![tactic(auto)]
 
 ghost use Rattle.std.specs.Prelude.{◌≡◌};
-ghost use Rattle.period.specs.Period.{product, times_of};
+ghost use Rattle.refusal.specs.Answer.{answered};
+ghost use Rattle.period.specs.Period.{unit_of, times_of};
+
+use refusal::Refusal;
 
 // The sign and the size of a count.
 pub mod sign;
 
-#[derive(Clone, Copy)]
+#[derive(Clone, Copy, Debug, PartialEq, Eq)]
 pub enum Unit {
     Days,
     Weeks,
@@ -15,34 +18,38 @@ pub enum Unit {
     Years,
 }
 
-#[derive(Clone, Copy)]
+// Units by their numbers, which are their places in document 01's list.
+impl TryFrom<u8> for Unit {
+    type Error = Refusal;
+
+    ghost try_from_gives = { λ n r. answered r ≡ unit_of n };
+
+    fn try_from(number: u8) -> Result<Unit, Refusal> {
+        match number {
+            0 => Ok(Unit::Days),
+            1 => Ok(Unit::Weeks),
+            2 => Ok(Unit::Months),
+            3 => Ok(Unit::Years),
+            _ => Err(Refusal::Request),
+        }
+    }
+}
+
+#[derive(Clone, Copy, Debug, PartialEq, Eq)]
 pub struct Period {
     pub length: i32,
     pub unit: Unit,
 }
 
-#[derive(Clone, Copy)]
-pub enum Product {
-    Period(Period),
-    Refused(u8),
-}
-
 impl Period {
     // The period taken `count` times, or refusal 5 where its length does not fit 32 bits.
-    pub fn times(self, count: i32) -> Product
-        ensures { product result ≡ times_of self.length self.unit count }
+    #[tactic(auto, using(crate::specs::Laws::Signed::same32, crate::specs::Laws::Times::times_fits, crate::specs::Laws::Times::times_unfit))]
+    pub fn times(self, count: i32) -> Result<Period, Refusal>
+        ensures { answered result ≡ times_of self.length self.unit count }
     {
-        let length = (self.length as i64) * (count as i64);
-        if length < -2147483648 {
-            return Product::Refused(refusal::TENOR);
+        match self.length.checked_mul(count) {
+            Some(length) => Ok(Period { length, ..self }),
+            None => Err(Refusal::Tenor),
         }
-        if 2147483647 < length {
-            return Product::Refused(refusal::TENOR);
-        }
-        let unit = self.unit;
-        Product::Period(Period {
-            length: length as i32,
-            unit,
-        })
     }
 }

@@ -1,7 +1,7 @@
 -- Both directions beside each other, computed: trades on which they agree, refused ones among them, and one for each premise that is needed. The two wrong
 -- statements of request L13 are false.
 -- Assumes nothing.
-use Rattle.std.specs.Prelude.{ℕ, ◌+◌, ◌*◌, ◌≤◌, ◌≡◌, refl, Bool, true, false, List, [], ◌∷◌, ltb, pos, length, get_or}
+use Rattle.std.specs.Prelude.{ℕ, ◌+◌, ◌*◌, ◌≤◌, ◌≡◌, refl, Bool, true, false, List, [], ◌∷◌, ltb, length, get_or}
 use Rattle.std.proofs.Common.{ap, sym, ◌∙◌, arith}
 use Rattle.refusal.specs.Answer.{Answer, given, refused, need, then}
 use Rattle.date.specs.Civil.{fields_of, leap, row_of, month_length, gone, sum_to, day_number, guess, years_gone, month_in, day_in, place_of, fields_at, weekday_of, days_until}
@@ -24,32 +24,19 @@ use Rattle.calendar.specs.declared.Convention.{Convention}
 use Rattle.calendar.specs.declared.Convention.TheVariants.{Unadjusted, Following}
 use Rattle.steps.specs.declared.Rule.TheVariants.{Backward, Forward}
 use Rattle.steps.specs.declared.Request.{Request}
+use Rattle.plain.specs.Requests.{on}
+use Rattle.plain.specs.Requests as requests
 use Rattle.plain.specs.Demand.{tenors_before}
 use Rattle.plain.specs.Forward.{under}
 use Rattle.plain.specs.Agree.{Whole, InMonths, EarlyDay, BothAgree}
 
 -- the rule is not read; termination is Unadjusted and there is no next-to-last date
 abbrev asked : Convention → Bool → ℕ → ℕ → ℕ → ℕ → ℕ → TimeUnit → Request
-asked convention monthend first mask from to length unit =
-    record {
-      effective = record { day = from };
-      termination = record { day = to };
-      tenor = record { length = pos length; unit = unit };
-      rule = Forward;
-      convention = convention;
-      terminal = Unadjusted;
-      monthend = monthend;
-      first = record { day = first };
-      penultimate = record { day = 0 };
-      mask = mask;
-    }
+asked convention monthend first mask from to length unit = requests.asked Forward convention Unadjusted monthend from to length unit first 0 mask
 
 -- with no anchors, Unadjusted, end of month off, never closed
 abbrev trade : ℕ → ℕ → ℕ → TimeUnit → Request
 trade from to length unit = asked Unadjusted false 0 0 from to length unit
-
-abbrev on : ℕ → ℕ → ℕ
-on month day = day_number 2025 month day
 
 -- forward and backward, with so many places for dates and for flags
 abbrev Ways : Type 0
@@ -138,7 +125,7 @@ abbrev case : List Ways → ℕ → Ways
 case l i = get_or l i (alike (refused 0))
 
 -- 29 for 28: 2023-01-29 to 02-28
-pub not_29 : BothAgree (λ q. InMonths q.tenor.unit → (fields_of q.effective.day).day ≤ 29) → ⊥
+pub not_29 : BothAgree (λ q. InMonths q.tenor.unit → (fields_of q.effective).day ≤ 29) → ⊥
 unfolding within_span shifted shift_days shift_months step month_index in_month make_of need leap row_of month_length gone sum_to day_number guess years_gone month_in day_in place_of fields_at
 not_29 h =
     let f = h (trade (day_number 2023 1 29) (day_number 2023 2 28) 1 Months) 1 (whole refl (omega arith) refl) (λ i. omega arith) [] 3 3 in

@@ -1,6 +1,6 @@
 -- Document 01, "Sums by hand": the first builds marked *, by demand 3 and not by making the list.
 -- Assumes nothing.
-use Rattle.std.specs.Prelude.{ℕ, ◌<◌, ◌≡◌, refl, true, false, List, [], ◌∷◌, ltb, pos}
+use Rattle.std.specs.Prelude.{ℕ, ◌<◌, ◌≡◌, refl, true, false, List, [], ◌∷◌, ltb}
 use Rattle.std.proofs.Common.{inl, arith}
 use Rattle.refusal.specs.Answer.{given, refused, need, ROOM}
 use Rattle.period.specs.declared.Unit.TheVariants.{Months}
@@ -12,6 +12,7 @@ use Rattle.calendar.specs.Calendar.{longest, tenor_ok}
 use Rattle.steps.specs.declared.Rule.TheVariants.{Backward}
 use Rattle.steps.specs.declared.Request.{Request}
 use Rattle.steps.specs.Build.{build_of}
+use Rattle.plain.specs.Requests.{on, asked}
 use Rattle.plain.specs.Demand.{Plain, Passes, taken, Most}
 use Rattle.plain.specs.Laws.Falling.{due_list}
 use Rattle.plain.specs.Laws.Walked.{owed_list}
@@ -20,19 +21,7 @@ use Rattle.plain.proofs.Laws.Formula.{given_by, refused_by}
 
 -- Backward by months, always open, Unadjusted, with no anchors and end of month off
 abbrev monthly : ℕ → ℕ → ℕ → Request
-monthly months from to =
-    record {
-      effective = record { day = from };
-      termination = record { day = to };
-      tenor = record { length = pos months; unit = Months };
-      rule = Backward;
-      convention = Unadjusted;
-      terminal = Unadjusted;
-      monthend = false;
-      first = record { day = 0 };
-      penultimate = record { day = 0 };
-      mask = 0;
-    }
+monthly months from to = asked Backward Unadjusted Unadjusted false from to months Months 0 0 0
 
 -- quarterly from 2025-01-15 to 2025-12-20, and monthly from 2025-01-31 to 2025-05-31
 abbrev quarters : Request
@@ -40,9 +29,6 @@ quarters = monthly 3 739266 739605
 
 abbrev ends : Request
 ends = monthly 1 739282 739402
-
-abbrev on : ℕ → ℕ → ℕ
-on month day = day_number 2025 month day
 
 days : ◌≡◌ {A = List ℕ} (on 1 15 ∷ on 12 20 ∷ on 1 31 ∷ on 5 31 ∷ []) (739266 ∷ 739605 ∷ 739282 ∷ 739402 ∷ [])
 unfolding day_number leap row_of gone sum_to

@@ -2,6 +2,7 @@
 pub mod Straight
 pub mod Chain
 pub mod Turns
+pub mod Ended
 pub mod Falling
 pub mod Count
 pub mod Units

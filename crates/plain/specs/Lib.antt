@@ -5,6 +5,7 @@ pub mod Laws
 pub mod Demand
 pub mod Forward
 pub mod Agree
+pub mod Requests
 pub mod Sums
 pub mod Points
 pub mod Pairs

@@ -1,6 +1,7 @@
 -- Request L7's worked answers: each entry's paid date and the one before adjustment, as one list and one claim.
+-- A list of its own beside Points: another function answers, with pairs of dates, and each list is one claim.
 -- Assumes nothing.
-use Rattle.std.specs.Prelude.{ℕ, ◌≡◌, refl, Bool, true, false, List, [], ◌∷◌, pos}
+use Rattle.std.specs.Prelude.{ℕ, ◌≡◌, refl, true, false, List, [], ◌∷◌}
 use Rattle.refusal.specs.Answer.{Answer, given, refused, need, then}
 use Rattle.date.specs.Civil.{leap, row_of, month_length, gone, sum_to, day_number, guess, years_gone, month_in, day_in, place_of, fields_at, weekday_of, days_until}
 use Rattle.date.specs.Date.{in_book, within_span, make_of, last_of_month, month_index, in_month, step, shift_days, shift_months, shifted, nth_weekday_of}
@@ -17,37 +18,11 @@ use Rattle.steps.specs.Finish.{third_wednesday, moved, each, between, on_first, 
 use Rattle.steps.specs.Build.{admitted}
 use Rattle.steps.specs.Entries.{Entries, without_former, without_second, left_beside, pairs_of, merged_entries, entries_of_made, entry_steps, entries_of}
 use Rattle.imm.specs.Imm.{is_imm_date, in_cycle, main_month}
-use Rattle.period.specs.declared.Unit.{Unit}
 use Rattle.period.specs.declared.Unit.TheVariants.{Days, Months, Weeks, Years}
-use Rattle.calendar.specs.declared.Convention.{Convention}
 use Rattle.calendar.specs.declared.Convention.TheVariants.{Following, Preceding, Unadjusted}
-use Rattle.steps.specs.declared.Rule.{Rule}
 use Rattle.steps.specs.declared.Rule.TheVariants.{Backward, CDS, Forward, OldCDS, ThirdWednesday, ThirdWednesdayInclusive, Zero}
 use Rattle.steps.specs.declared.Request.{Request}
-
--- a date of 2025
-abbrev on : ℕ → ℕ → ℕ
-on month day = day_number 2025 month day
-
--- Saturdays and Sundays closed
-abbrev weekends : ℕ
-weekends = 96
-
--- effective, termination, tenor
-asked : Rule → Convention → Convention → Bool → ℕ → ℕ → ℕ → Unit → ℕ → ℕ → ℕ → Request
-asked rule convention terminal monthend from to length unit first penultimate mask =
-    record {
-      effective = record { day = from };
-      termination = record { day = to };
-      tenor = record { length = pos length; unit = unit };
-      rule = rule;
-      convention = convention;
-      terminal = terminal;
-      monthend = monthend;
-      first = record { day = first };
-      penultimate = record { day = penultimate };
-      mask = mask;
-    }
+use Rattle.plain.specs.Requests.{on, weekends, asked}
 
 builds : List ℕ → Request → Answer Entries
 builds closed q = entries_of q closed 4096 4096 4096
@@ -92,5 +67,5 @@ answers : ◌≡◌ {A = List (Answer Entries)}
     ∷ refused 1
     ∷ refused 1
     ∷ [])
-unfolding rule_number one_of is_zero is_backward asked builds given_as need then leap row_of month_length gone sum_to day_number guess years_gone month_in day_in place_of fields_at weekday_of days_until in_book within_span make_of last_of_month month_index in_month step shift_days shift_months shifted nth_weekday_of weekly_closed member is_open_day ascending closed_ok calendar_ok in_span taken_or any.first_open any.found same_month unless_left any.modified any.by_convention any.adjusted any.last_open any.at_month_end towards any.open_steps any.end_asked any.landed any.add_months any.add_weeks any.by_unit any.advanced longest tenor_ok main_month in_cycle is_imm_date on_twentieths in_imm_months is_credit is_old_cds rule_under is_none rule_in_force tenor_under tenor_in_force pace_by pace_of number_or first_row is_given anchor_ok dates_ok by_range by_imm out_of_range not_imm wrong_rule first_outside last_outside monthend_allowed in_days short_end anchor_rows first_rows last_rows rows_under input_rows twentieth_of moved_if skip_of to_imm_month next_twentieth previous_twentieth last_day seed_of candidate_by candidate is_past unless_same unless_past turn_of has_room_in put put_unless put_new on_turn last_try walk candidates anchor_or put_anchor zero_dates put_penultimate begun ended backward_end backward_from backward put_earlier credit_opening opening_by opening tenor_on put_seed put_first far_enough is_near coming_twentieth put_coming put_twentieth second closing_day put_closing closing opened shut forward_end forward_from forward generate_by generate third_wednesday moved each between on_first on_last on_middle wednesdays_by wednesdays unless first_move last_move month_end_move middle_move seed_asked seed_at_end adjustments meet_at_end merge_end_if merge_end meet_at_front merge_front_if merge_front without_former without_second left_beside pairs_of merged_entries entries_of_made entry_steps admitted entries_of
+unfolding rule_number one_of is_zero is_backward builds given_as need then leap row_of month_length gone sum_to day_number guess years_gone month_in day_in place_of fields_at weekday_of days_until in_book within_span make_of last_of_month month_index in_month step shift_days shift_months shifted nth_weekday_of weekly_closed member is_open_day ascending closed_ok calendar_ok in_span taken_or any.first_open any.found same_month unless_left any.modified any.by_convention any.adjusted any.last_open any.at_month_end towards any.open_steps any.end_asked any.landed any.add_months any.add_weeks any.by_unit any.advanced longest tenor_ok main_month in_cycle is_imm_date on_twentieths in_imm_months is_credit is_old_cds rule_under is_none rule_in_force tenor_under tenor_in_force pace_by pace_of number_or first_row is_given anchor_ok dates_ok by_range by_imm out_of_range not_imm wrong_rule first_outside last_outside monthend_allowed in_days short_end anchor_rows first_rows last_rows rows_under input_rows twentieth_of moved_if skip_of to_imm_month next_twentieth previous_twentieth last_day seed_of candidate_by candidate is_past unless_same unless_past turn_of has_room_in put put_unless put_new on_turn last_try walk candidates anchor_or put_anchor zero_dates put_penultimate begun ended backward_end backward_from backward put_earlier credit_opening opening_by opening tenor_on put_seed put_first far_enough is_near coming_twentieth put_coming put_twentieth second closing_day put_closing closing opened shut forward_end forward_from forward generate_by generate third_wednesday moved each between on_first on_last on_middle wednesdays_by wednesdays unless first_move last_move month_end_move middle_move seed_asked seed_at_end adjustments meet_at_end merge_end_if merge_end meet_at_front merge_front_if merge_front without_former without_second left_beside pairs_of merged_entries entries_of_made entry_steps admitted entries_of
 answers = refl

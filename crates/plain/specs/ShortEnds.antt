@@ -1,7 +1,7 @@
 -- Refusal 27 beside each other refusal of a build: the requests meet the row of 27 and that of another, and 1 to 12 come first, what the
 -- steps meet afterwards. (A negative tenor, 4, is not positive.)
 -- Assumes nothing.
-use Rattle.std.specs.Prelude.{ℕ, ◌≡◌, refl, true, List, [], ◌∷◌, pos}
+use Rattle.std.specs.Prelude.{ℕ, ◌≡◌, refl, true, List, [], ◌∷◌}
 use Rattle.refusal.specs.Answer.{Answer, refused}
 use Rattle.period.specs.declared.Unit.{Unit}
 use Rattle.period.specs.declared.Unit.TheVariants.{Days, Weeks}
@@ -17,25 +17,13 @@ use Rattle.steps.specs.declared.Request.{Request}
 use Rattle.steps.specs.Rules.{rule_number, one_of, is_zero, is_none, rule_under, rule_in_force}
 use Rattle.steps.specs.Table.{number_or, first_row, is_given, anchor_ok, dates_ok, by_range, by_imm, out_of_range, not_imm, wrong_rule, first_outside, last_outside, monthend_allowed, in_days, short_end, anchor_rows, first_rows, last_rows, rows_under, input_rows}
 use Rattle.steps.specs.Build.{Schedule, admitted, build_of}
-
-abbrev on : ℕ → ℕ → ℕ
-on month day = day_number 2025 month day
+use Rattle.plain.specs.Requests.{on}
+use Rattle.plain.specs.Requests as requests
 
 -- with end of month
 asked : Rule → ℕ → ℕ → ℕ → Unit → ℕ → ℕ → ℕ → Request
 asked rule from to length unit first penultimate mask =
-    record {
-      effective = record { day = from };
-      termination = record { day = to };
-      tenor = record { length = pos length; unit = unit };
-      rule = rule;
-      convention = Unadjusted;
-      terminal = ModifiedPreceding;
-      monthend = true;
-      first = record { day = first };
-      penultimate = record { day = penultimate };
-      mask = mask;
-    }
+    requests.asked rule Unadjusted ModifiedPreceding true from to length unit first penultimate mask
 
 -- from 2025-01-31 to 03-31, with an anchor or two
 weekly : Rule → ℕ → ℕ → Request

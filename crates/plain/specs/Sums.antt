@@ -1,6 +1,6 @@
 -- Document 01, "Sums by hand": all that are marked *, rooms included, as one list and one claim; the CDS sum as request L3 has it.
 -- Assumes nothing.
-use Rattle.std.specs.Prelude.{ℕ, ◌≡◌, refl, true, false, List, [], ◌∷◌, pos}
+use Rattle.std.specs.Prelude.{ℕ, ◌≡◌, refl, true, false, List, [], ◌∷◌}
 use Rattle.refusal.specs.Answer.{Answer, given, refused, need, then}
 use Rattle.period.specs.declared.Unit.TheVariants.{Months}
 use Rattle.calendar.specs.declared.Convention.TheVariants.{Unadjusted}
@@ -22,26 +22,11 @@ use Rattle.steps.specs.Candidates.{last_day, seed_of, candidate_by, candidate, i
 use Rattle.steps.specs.Generate.{has_room_in, put, put_unless, put_new, on_turn, last_try, walk, candidates, anchor_or, put_anchor, zero_dates, put_penultimate, begun, ended, backward_end, backward_from, backward, put_earlier, credit_opening, opening_by, opening, tenor_on, put_seed, put_first, far_enough, is_near, coming_twentieth, put_coming, put_twentieth, second, closing_day, put_closing, closing, opened, shut, forward_end, forward_from, forward, generate_by, generate}
 use Rattle.steps.specs.Finish.{third_wednesday, moved, each, between, on_first, on_last, on_middle, wednesdays_by, wednesdays, unless, first_move, last_move, month_end_move, middle_move, seed_asked, seed_at_end, adjustments, meet_at_end, merge_end_if, merge_end, meet_at_front, merge_front_if, merge_front, finish}
 use Rattle.steps.specs.Build.{Schedule, steps_of, admitted, build_of}
-
--- a date of 2025, and a list of them
-abbrev on : ℕ → ℕ → ℕ
-on month day = day_number 2025 month day
+use Rattle.plain.specs.Requests.{on, asked}
 
 -- a request by months, always open, Unadjusted, with no anchors and end of month off
 plain : Rule → ℕ → ℕ → ℕ → Request
-plain rule months from to =
-    record {
-      effective = record { day = from };
-      termination = record { day = to };
-      tenor = record { length = pos months; unit = Months };
-      rule = rule;
-      convention = Unadjusted;
-      terminal = Unadjusted;
-      monthend = false;
-      first = record { day = 0 };
-      penultimate = record { day = 0 };
-      mask = 0;
-    }
+plain rule months from to = asked rule Unadjusted Unadjusted false from to months Months 0 0 0
 
 in_room : ℕ → Request → Answer Schedule
 in_room room q = build_of q [] room room

@@ -10,16 +10,11 @@ use calendar::Convention;
 use period::Period;
 use steps::{Request, rules};
 
+#[tactic(auto, unfolding(crate::specs::PlainTests::is_unadjusted))]
 fn is_unadjusted(convention: Convention) -> bool
     ensures { result ≡ is_unadjusted convention }
 {
-    match convention {
-        Convention::Unadjusted => true,
-        Convention::Following => false,
-        Convention::ModifiedFollowing => false,
-        Convention::Preceding => false,
-        Convention::ModifiedPreceding => false,
-    }
+    matches!(convention, Convention::Unadjusted)
 }
 
 fn is_positive(tenor: Period) -> bool
@@ -32,44 +27,29 @@ fn is_positive(tenor: Period) -> bool
 fn is_unanchored(q: Request) -> bool
     ensures { result ≡ is_unanchored q }
 {
-    if q.first.day != 0 {
-        return false;
-    }
-    if q.penultimate.day != 0 {
-        return false;
-    }
-    q.effective.day < q.termination.day
+    q.first.day == 0 && q.penultimate.day == 0 && q.effective.day < q.termination.day
 }
 
 // Whether a request is straight: positive tenor, no anchors, both conventions Unadjusted, end of month off, effective before
 // termination, under whatever rule.
+#[tactic(auto, unfolding(crate::specs::PlainTests::is_straight))]
 pub fn is_straight(q: Request) -> bool
     ensures { result ≡ is_straight q }
 {
     let convention = q.convention;
     let terminal = q.terminal;
-    if !is_positive(q.tenor) {
-        return false;
-    }
-    if !is_unadjusted(convention) {
-        return false;
-    }
-    if !is_unadjusted(terminal) {
-        return false;
-    }
-    if q.monthend {
-        return false;
-    }
-    is_unanchored(q)
+    is_positive(q.tenor)
+        && is_unadjusted(convention)
+        && is_unadjusted(terminal)
+        && !q.monthend
+        && is_unanchored(q)
 }
 
 // Whether a request is plain: Backward and straight. The input checks are the builder's.
+#[tactic(auto, using(crate::proofs::Ways::not_backward, crate::proofs::Ways::then_straight))]
 pub fn is_plain(q: Request) -> bool
     ensures { PlainIf result q }
 {
     let rule = q.rule;
-    if !rules::is_backward(rule) {
-        return false;
-    }
-    is_straight(q)
+    rules::is_backward(rule) && is_straight(q)
 }

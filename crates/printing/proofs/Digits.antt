@@ -20,8 +20,8 @@ pub record Spelling (n left at : ℕ) (digits : List ℕ) : Type 0 where
   pub most : at ≤ 20
   pub size : length digits ≡ 20
 
-in_front_lem : (digits : List ℕ) (k v : ℕ) → k < length digits → drop k (set digits k v) ≡ v ∷ drop (suc k) digits
-in_front_lem digits k v h =
+in_front : (digits : List ℕ) (k v : ℕ) → k < length digits → drop k (set digits k v) ≡ v ∷ drop (suc k) digits
+in_front digits k v h =
     let l : k < length (set digits k v) = rw (length-set digits k v) h in
     drop-cons (set digits k v) k 0 l ∙ rw (get_or-set_same digits k v 0 h, drop-set-lt (suc k) digits k v (omega arith))
 
@@ -58,7 +58,7 @@ module _ {n left at : ℕ} {digits : List ℕ} (c : Spelling n left at digits) w
   one_more k e h =
       let l : k < length digits = omega (arith, c) in
       record {
-        same = rw (in_front_lem digits k (digit (left % 10)) l) (sym (more k left (drop (suc k) digits) h) ∙ (rw e at c.same));
+        same = rw (in_front digits k (digit (left % 10)) l) (sym (more k left (drop (suc k) digits) h) ∙ (rw e at c.same));
         few = under k e;
         some = not_last k e h;
         most = omega (arith, c.most);
@@ -69,7 +69,7 @@ module _ {n left at : ℕ} {digits : List ℕ} (c : Spelling n left at digits) w
   the_last k e h =
       let l : k < length digits = omega (arith, c) in
       record {
-        says = in_front_lem digits k (digit left) l ∙ sym (last k left (drop (suc k) digits) h) ∙ (rw e at c.same);
+        says = in_front digits k (digit left) l ∙ sym (last k left (drop (suc k) digits) h) ∙ (rw e at c.same);
         within = omega (arith, c.most);
         size = length-set digits k (digit left) ∙ c.size;
       }

@@ -3,12 +3,13 @@
 use Prim.Native.Nat.{ℕ, ◌+◌, ◌/◌, ◌%◌, ◌≤◌, ◌<◌}
 use mathlib.Core.Path.{◌≡◌, refl, ap, sym, ◌∙◌}
 use mathlib.Core.List.{List, [], ◌∷◌, ◌++◌, append_assoc, append-nil}
-use native.Mathlib.Nat.{add-zero}
 use native.Mathlib.Numerals.{add-one}
 use native.Mathlib.Omega.{arith}
-use lib.ListN.{length, take, drop, set, get_or, length-set, length-append}
-use lib.Seq.{take-suc, take-suc-set, take-length, drop-set-lt, drop-drop}
+use lib.ListN.{length, take, drop, set, length-set, length-append, length-drop}
+use lib.Seq.{take-suc-set, drop-set-lt, drop-drop, length-take-le}
 use borrow.Author.Rules.{rules}
+use borrow.Rule.Slice.PartMut.{put_mid, same_len_mid}
+use Rattle.std.proofs.lemmas.Slice.{take-put_mid, drop-put_mid}
 use borrow.Author.Tests.{eq-eqb, ne_eqb}
 use Rattle.date.specs.declared.Fields.{Fields}
 use Rattle.date.specs.Civil.{fields_of}
@@ -43,29 +44,16 @@ module _ {a b : List ℕ} {at middle end : ℕ} {old new newer : List ℕ} (p : 
         size = q.size ∙ p.size;
       }
 
--- ---- a text put byte after byte
-pub record Copied (text : List ℕ) (at : ℕ) (old new : List ℕ) (i : ℕ) : Type 0 where
-  pub within : i ≤ length text
-  pub put : Put (take i text) at old (at + i) new
-
-module _ {text : List ℕ} {at : ℕ} {old : List ℕ} where
-  pub copied_none : Copied text at old old 0
-  copied_none = record { within = omega arith; put = rw (add-zero at) (put_none at old) }
-
-  pub copied_more : {new : List ℕ} {i : ℕ} → Copied text at old new i → at + length text ≤ length old → i < length text → Copied text at old (set new (at + i) (get_or text i 0)) (i + 1)
-  copied_more {new} {i} c r h =
-      let e : at + (i + 1) ≡ at + i + 1 = omega arith in
-      record {
-        within = omega arith;
-        put = rw (e, add-one i, take-suc text i 0 h) (put_then c.put (put_one (get_or text i 0) (at + i) new (omega (arith, c.put.size))));
-      }
-
-  pub copied_all : {new : List ℕ} {i : ℕ} → Copied text at old new i → length text ≤ i → Put text at old (at + i) new
-  copied_all {new} {i} c h =
-      let e : i ≡ length text = omega (arith, c) in
-      rw e (rw (take-length text) at (rw e at c.put))
-
-pub ruleset copies = (copied_none, copied_more, copied_all, rules)
+-- ---- a text copied into a part of the list, of as many places as it has bytes
+pub put_part : (text part out : List ℕ) (at k : ℕ) → at + length text ≤ length out → k ≡ length text → part ≡ text → Put text at out (at + length text) (put_mid at k out part)
+put_part text part out at k room few same =
+    let size : length part ≡ length text = ap length same in
+    record {
+      ends = refl;
+      before = take-put_mid at k out part (at + length text) (omega arith) (omega arith) ∙ ap (λ (l : List ℕ). take at out ++ l) same;
+      behind = drop-put_mid at k out part (at + length text) (omega arith) (omega arith) (omega arith);
+      size = same_len_mid at k out part (omega (arith, length-take-le k (drop at out) (omega (arith, length-drop at out))));
+    }
 
 -- ---- the texts of dates and lines, the last part first
 pub two_put : (n : ℕ) {at m end : ℕ} {old mid new : List ℕ} → Put (digit (n % 10) ∷ []) m mid end new → Put (digit (n / 10 % 10) ∷ []) at old m mid → Put (two_digits n) at old end new

@@ -42,23 +42,23 @@ lines_none [] flags unadjusted at out e = put_none at out
 lines_none (day ∷ days) flags unadjusted at out e = absurd (let bad : ⊥ = omega arith in bad)
 
 module _ (flags unadjusted : List ℕ) (other : ℕ) (rest : List ℕ) where
-  two_parts_lem : (dates : List ℕ) → (length dates ≡ 0 → ⊥) → other ≡ get_or unadjusted 0 (get_or dates 0 0) → rest ≡ drop 1 unadjusted → first_line (get_or dates 0 0) other ++ later_lines (take (length dates - 1) (drop 1 dates)) flags rest ≡ lines dates flags unadjusted
+  two_parts : (dates : List ℕ) → (length dates ≡ 0 → ⊥) → other ≡ get_or unadjusted 0 (get_or dates 0 0) → rest ≡ drop 1 unadjusted → first_line (get_or dates 0 0) other ++ later_lines (take (length dates - 1) (drop 1 dates)) flags rest ≡ lines dates flags unadjusted
   unfolding lines
-  two_parts_lem [] h o r = absurd (h refl)
-  two_parts_lem (day ∷ days) h o r = rw (rest_of 1 (length (day ∷ days)) (day ∷ days) refl, o, r)
+  two_parts [] h o r = absurd (h refl)
+  two_parts (day ∷ days) h o r = rw (rest_of 1 (length (day ∷ days)) (day ∷ days) refl, o, r)
 
   module _ (dates : List ℕ) (h : length dates ≡ 0 → ⊥) (o : other ≡ get_or unadjusted 0 (get_or dates 0 0)) where
     pub first_room : (at : ℕ) (out : List ℕ) → at + length (lines dates flags unadjusted) ≤ length out → rest ≡ drop 1 unadjusted → at + length (first_line (get_or dates 0 0) other) ≤ length out
     first_room at out l r =
-        omega (arith, length-append (first_line (get_or dates 0 0) other) (later_lines (take (length dates - 1) (drop 1 dates)) flags rest), ap length (two_parts_lem dates h o r))
+        omega (arith, length-append (first_line (get_or dates 0 0) other) (later_lines (take (length dates - 1) (drop 1 dates)) flags rest), ap length (two_parts dates h o r))
 
     module _ (r : rest ≡ drop 1 unadjusted) {at m : ℕ} {old mid : List ℕ} (p : Put (first_line (get_or dates 0 0) other) at old m mid) where
       pub later_room : at + length (lines dates flags unadjusted) ≤ length old → m + length (later_lines (take (length dates - 1) (drop 1 dates)) flags rest) ≤ length mid
       later_room l =
-          omega (arith, length-append (first_line (get_or dates 0 0) other) (later_lines (take (length dates - 1) (drop 1 dates)) flags rest), ap length (two_parts_lem dates h o r), p.ends, p.size)
+          omega (arith, length-append (first_line (get_or dates 0 0) other) (later_lines (take (length dates - 1) (drop 1 dates)) flags rest), ap length (two_parts dates h o r), p.ends, p.size)
 
       pub lines_put : {end : ℕ} {new : List ℕ} → Put (later_lines (take (length dates - 1) (drop 1 dates)) flags rest) m mid end new → Put (lines dates flags unadjusted) at old end new
-      lines_put q = rw (← two_parts_lem dates h o r) (put_then p q)
+      lines_put q = rw (← two_parts dates h o r) (put_then p q)
 
 -- ---- a refusal
 module _ {n at : ℕ} {digits : List ℕ} (s : Spelled n at digits) where

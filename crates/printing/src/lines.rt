@@ -7,16 +7,14 @@ use crate::puts::{put_byte, put_bytes, put_two};
 use date::civil;
 
 // R for a regular period, S for another, and for a flag that is not there.
+#[tactic(auto, unfolding(crate::specs::Text::mark))]
 fn mark_at(flags: &[u8], i: usize) -> u8
     ensures { result ≡ mark (get_or flags.now i 0) }
 {
-    if flags.len() <= i {
-        return b'S';
+    match flags.get(i) {
+        Some(1) => b'R',
+        _ => b'S',
     }
-    if flags[i] == 1 {
-        return b'R';
-    }
-    b'S'
 }
 
 fn put_date(day: u32, at: usize, out: &mut [u8]) -> usize
@@ -36,20 +34,15 @@ fn put_date(day: u32, at: usize, out: &mut [u8]) -> usize
 fn unadjusted_at(unadjusted: &[u32], i: usize, paid: u32) -> u32
     ensures { result ≡ get_or unadjusted.now i paid }
 {
-    if unadjusted.len() <= i {
-        return paid;
-    }
-    unadjusted[i]
+    unadjusted.get(i).copied().unwrap_or(paid)
 }
 
 // 1 where the two dates of an entry differ.
+#[tactic(auto, unfolding(crate::specs::Put::differs))]
 fn differ(day: u32, other: u32) -> usize
     ensures { result ≡ differs day other }
 {
-    if day == other {
-        return 0;
-    }
-    1
+    usize::from(day != other)
 }
 
 // How many lines have brackets.
@@ -57,10 +50,8 @@ pub(crate) fn count_differing(dates: &[u32], unadjusted: &[u32]) -> usize
     ensures { result ≡ differing dates.now unadjusted.now }
 {
     let mut n = 0;
-    let mut i = 0;
-    while i < dates.len() {
-        n += differ(dates[i], unadjusted_at(unadjusted, i, dates[i]));
-        i += 1;
+    for (i, day) in dates.iter().enumerate() {
+        n += differ(*day, unadjusted_at(unadjusted, i, *day));
     }
     n
 }
@@ -108,11 +99,9 @@ fn put_all_later(
     ensures { Put (later_lines dates.now flags.now unadjusted.now) at out.old result out.new }
 {
     let mut next = at;
-    let mut i = 0;
-    while i < dates.len() {
-        let other = unadjusted_at(unadjusted, i, dates[i]);
-        next = put_later(dates[i], mark_at(flags, i), other, next, out);
-        i += 1;
+    for (i, day) in dates.iter().enumerate() {
+        let other = unadjusted_at(unadjusted, i, *day);
+        next = put_later(*day, mark_at(flags, i), other, next, out);
     }
     next
 }
@@ -121,10 +110,10 @@ fn put_all_later(
 fn others<'a>(unadjusted: &'a [u32]) -> &'a [u32]
     ensures { result.now ≡ drop 1 unadjusted.now }
 {
-    if unadjusted.len() == 0 {
-        return unadjusted;
+    match unadjusted {
+        [_, rest @ ..] => rest,
+        [] => unadjusted,
     }
-    &unadjusted[1..]
 }
 
 pub(crate) fn put_lines(

@@ -9,6 +9,7 @@ pub(crate) fn spell(n: u64, digits: &mut [u8]) -> usize
 {
     let mut left = n;
     let mut at = 20;
+    // The number that is left decides when it ends, and not the place.
     while 9 < left {
         at -= 1;
         digits[at] = (48 + left % 10) as u8;

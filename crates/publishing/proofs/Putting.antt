@@ -3,11 +3,9 @@
 use Prim.Native.Nat.{ℕ, ◌+◌, ◌/◌, ◌≤◌, ◌<◌}
 use mathlib.Core.Path.{◌≡◌, refl, ap, sym, ◌∙◌}
 use mathlib.Core.List.{List, [], ◌∷◌, ◌++◌, append_assoc, append-nil}
-use native.Mathlib.Nat.{add-zero}
-use native.Mathlib.Numerals.{add-one}
 use native.Mathlib.Omega.{arith}
-use lib.ListN.{length, take, drop, set, get_or, length-set, length-append}
-use lib.Seq.{take-suc, take-suc-set, take-length, drop-set-lt, drop-drop}
+use lib.ListN.{length, take, drop, length-append, length-drop}
+use lib.Seq.{drop-drop, length-take-le, take-append_seam, drop-append_seam}
 use borrow.Author.Rules.{rules}
 use Rattle.date.specs.declared.Fields.{Fields}
 use Rattle.date.specs.Civil.{fields_of}
@@ -18,18 +16,9 @@ use Rattle.publishing.specs.Inner.Put.{Put, PutDate}
 pub put_none : (at : ℕ) (out : List ℕ) → Put [] at out at out
 put_none at out = record { ends = omega arith; before = sym (append-nil _); behind = refl; size = refl }
 
-put_one : (b at : ℕ) (out : List ℕ) → at < length out → Put (b ∷ []) at out (at + 1) (set out at b)
-put_one b at out h =
-    record {
-      ends = refl;
-      before = rw (add-one) (take-suc-set out at b h);
-      behind = drop-set-lt (at + 1) out at b (omega arith);
-      size = length-set out at b;
-    }
-
 module _ {a b : List ℕ} {at middle end : ℕ} {old new newer : List ℕ} (p : Put a at old middle new) (q : Put b middle new end newer) where
-  past : drop end new ≡ drop end old
-  past =
+  rest : drop end new ≡ drop end old
+  rest =
       let e : end ≡ middle + length b = q.ends in
       rw e (sym (drop-drop (length b) middle new) ∙ ap (λ (l : List ℕ). drop (length b) l) p.behind ∙ drop-drop (length b) middle old)
 
@@ -38,33 +27,22 @@ module _ {a b : List ℕ} {at middle end : ℕ} {old new newer : List ℕ} (p : 
       record {
         ends = omega (arith, length-append a b, p.ends, q.ends);
         before = q.before ∙ ap (λ (l : List ℕ). l ++ b) p.before ∙ append_assoc (take at old) a b;
-        behind = q.behind ∙ past;
+        behind = q.behind ∙ rest;
         size = q.size ∙ p.size;
       }
 
--- ---- a text put byte after byte
-pub record Copied (text : List ℕ) (at : ℕ) (old new : List ℕ) (i : ℕ) : Type 0 where
-  pub within : i ≤ length text
-  pub put : Put (take i text) at old (at + i) new
-
-module _ {text : List ℕ} {at : ℕ} {old : List ℕ} where
-  pub copied_none : Copied text at old old 0
-  copied_none = record { within = omega arith; put = rw (add-zero at) (put_none at old) }
-
-  pub copied_more : {new : List ℕ} {i : ℕ} → Copied text at old new i → at + length text ≤ length old → i < length text → Copied text at old (set new (at + i) (get_or text i 0)) (i + 1)
-  copied_more {new} {i} c r h =
-      let e : at + (i + 1) ≡ at + i + 1 = omega arith in
-      record {
-        within = omega arith;
-        put = rw (e, add-one i, take-suc text i 0 h) (put_then c.put (put_one (get_or text i 0) (at + i) new (omega (arith, c.put.size))));
-      }
-
-  pub copied_all : {new : List ℕ} {i : ℕ} → Copied text at old new i → length text ≤ i → Put text at old (at + i) new
-  copied_all {new} {i} c h =
-      let e : i ≡ length text = omega (arith, c) in
-      rw e (rw (take-length text) at (rw e at c.put))
-
-pub ruleset copies = (copied_none, copied_more, copied_all, rules)
+-- ---- a text put at once, over the bytes that stood there
+pub put_over : (text old : List ℕ) (at n : ℕ) {part : List ℕ} → at + length text ≤ length old → part ≡ text → n ≡ length text → Put text at old (at + length text) (take at old ++ (part ++ drop n (drop at old)))
+put_over text old at m {part} h e q =
+    let f : drop m (drop at old) ≡ drop (at + length text) old = drop-drop m at old ∙ ap (λ (k : ℕ). drop (at + k) old) q in
+    let n : length (take at old ++ text) ≡ at + length text = length-append (take at old) text ∙ ap (λ (k : ℕ). k + length text) (length-take-le at old (omega arith)) in
+    let whole : take at old ++ (part ++ drop m (drop at old)) ≡ (take at old ++ text) ++ drop (at + length text) old = rw (e, f) (sym (append_assoc (take at old) text (drop (at + length text) old))) in
+    record {
+      ends = refl;
+      before = ap (take (at + length text)) whole ∙ ap (λ (k : ℕ). take k ((take at old ++ text) ++ drop (at + length text) old)) (sym n) ∙ take-append_seam (take at old ++ text) (drop (at + length text) old);
+      behind = ap (drop (at + length text)) whole ∙ ap (λ (k : ℕ). drop k ((take at old ++ text) ++ drop (at + length text) old)) (sym n) ∙ drop-append_seam (take at old ++ text) (drop (at + length text) old);
+      size = ap length whole ∙ length-append (take at old ++ text) (drop (at + length text) old) ∙ omega (arith, n, length-drop (at + length text) old);
+    }
 
 -- ---- a date, an event and the file: the last part first
 module _ (day : ℕ) (f : Fields) {at m₁ m₂ m₃ end : ℕ} {old n₁ n₂ n₃ new : List ℕ} (e : f ≡ fields_of day) (p₄ : Put (two_digits f.day) m₃ n₃ end new) (p₃ : Put (two_digits f.month) m₂ n₂ m₃ n₃) (p₂ : Put (two_digits f.year) m₁ n₁ m₂ n₂) (p₁ : Put (two_digits (f.year / 100)) at old m₁ n₁) where

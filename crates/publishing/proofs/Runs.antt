@@ -6,7 +6,7 @@ use mathlib.Core.Bool.{Bool, true, false}
 use mathlib.Core.List.{List, [], ◌∷◌, ◌++◌, append_assoc, append-nil}
 use native.Mathlib.Numerals.{add-one}
 use native.Mathlib.Omega.{arith}
-use mir.Syntax.{w32, w64}
+use mir.Syntax.{w32}
 use mir.Val.{Fits}
 use lib.Dec.{eqb}
 use lib.ListN.{length, drop, get_or, length-append, drop_of_length-le}
@@ -17,20 +17,9 @@ use Rattle.calendar.specs.Open.{closed_ok}
 use Rattle.calendar.specs.Laws.Kept.{checked_keeps}
 use Rattle.holidays.specs.Words.{Bytes}
 use Rattle.publishing.specs.File.{Run, joined, runs_from, runs_of, event_lines, all_events, written}
-use Rattle.publishing.specs.Inner.Runs.{new_by, is_new}
 use Rattle.publishing.specs.Inner.Put.{Put}
 use Rattle.publishing.specs.Laws.Sizes.{written_more, events_size}
 use Rattle.publishing.proofs.Putting.{put_none, put_then}
-
-pub no_new : (day past : ℕ) → day ≡ past → 0 ≡ is_new day past
-unfolding is_new new_by
-no_new day past h = rw (eq-eqb day past h)
-
-pub one_new : (day past : ℕ) → (day ≡ past → ⊥) → 1 ≡ is_new day past
-unfolding is_new new_by
-one_new day past h = rw (ne_eqb day past h)
-
-pub ruleset news = (no_new, one_new, rules)
 
 -- a day of the list has a next one
 pub next_day : (list : List ℕ) (i : ℕ) → closed_ok list ≡ true → i < length list → Fits w32 (get_or list i 0 + 1)
@@ -53,13 +42,13 @@ runs_many a b past (d ∷ ds) = go (runs_many a b (d + 1) ds) (eqb d past)
     go on true = on
     go on false = refl
 
-runs_next : (first past d : ℕ) (ds : List ℕ) → length (runs_from first past (d ∷ ds)) ≡ is_new d past + length (runs_from first (d + 1) ds)
-unfolding runs_from is_new joined new_by
-runs_next first past d ds = go (eqb d past)
-  where
-    go : (e : Bool) → length (joined e first past d (λ from. runs_from from (d + 1) ds)) ≡ new_by e + length (runs_from first (d + 1) ds)
-    go true = omega arith
-    go false = omega (arith, runs_many d first (d + 1) ds)
+runs_same : (first past d : ℕ) (ds : List ℕ) → d ≡ past → runs_from first past (d ∷ ds) ≡ runs_from first (d + 1) ds
+unfolding runs_from joined
+runs_same first past d ds e = rw (eq-eqb d past e)
+
+runs_new : (first past d : ℕ) (ds : List ℕ) → (d ≡ past → ⊥) → runs_from first past (d ∷ ds) ≡ record { first = first; past = past } ∷ runs_from d (d + 1) ds
+unfolding runs_from joined
+runs_new first past d ds n = rw (ne_eqb d past n)
 
 cut : (list : List ℕ) (i : ℕ) → i < length list → drop i list ≡ get_or list i 0 ∷ drop (i + 1) list
 cut list i h = drop-cons list i 0 h ∙ rw (add-one i)
@@ -81,40 +70,32 @@ counted_first [] h = absurd (h refl)
 counted_first (d ∷ ds) h =
     record { within = omega arith; few = omega arith; all = λ first. omega (arith, runs_many first d (d + 1) ds) }
 
-new_few : (day past : ℕ) → is_new day past ≤ 1
-unfolding is_new new_by
-new_few day past = go (eqb day past)
-  where
-    go : (b : Bool) → new_by b ≤ 1
-    go true = omega arith
-    go false = omega arith
+module _ {list : List ℕ} {runs past i : ℕ} (c : Counted list runs past i) (h : i < length list) where
+  at_day : (first : ℕ) → length (runs_from first past (drop i list)) ≡ length (runs_from first past (get_or list i 0 ∷ drop (i + 1) list))
+  at_day first = ap (λ (ds : List ℕ). length (runs_from first past ds)) (cut list i h)
 
-pub counted_fits : {list : List ℕ} {runs past i : ℕ} (day new : ℕ) → closed_ok list ≡ true → Counted list runs past i → new ≡ is_new day past → Fits w64 (runs + new)
-counted_fits {list} {runs} {past} {i} day new ok c e =
-    record { fits = omega (arith, new_few day past, c.few, c.within, (checked_keeps list ok).few) }
+  pub counted_same : get_or list i 0 ≡ past → Counted list runs (get_or list i 0 + 1) (i + 1)
+  counted_same e =
+      record {
+        within = omega arith;
+        few = omega (arith, c.few);
+        all = λ first. omega (arith, c.all first, at_day first, ap length (runs_same first past (get_or list i 0) (drop (i + 1) list) e));
+      }
 
-pub counted_more : {list : List ℕ} {runs past i : ℕ} (new : ℕ) → Counted list runs past i → i < length list → new ≡ is_new (get_or list i 0) past → Counted list (runs + new) (get_or list i 0 + 1) (i + 1)
-counted_more {list} {runs} {past} {i} new c h e =
-    record {
-      within = omega arith;
-      few = omega (arith, new_few (get_or list i 0) past, c.few);
-      all = λ first. omega (arith, c.all first, ap (λ (ds : List ℕ). length (runs_from first past ds)) (cut list i h), runs_next first past (get_or list i 0) (drop (i + 1) list));
-    }
+  pub counted_new : (get_or list i 0 ≡ past → ⊥) → Counted list (runs + 1) (get_or list i 0 + 1) (i + 1)
+  counted_new n =
+      record {
+        within = omega arith;
+        few = omega (arith, c.few);
+        all = λ first. omega (arith, c.all first, at_day first, ap length (runs_new first past (get_or list i 0) (drop (i + 1) list) n), runs_many first (get_or list i 0) (get_or list i 0 + 1) (drop (i + 1) list));
+      }
 
 pub counted_all : {list : List ℕ} {runs past i : ℕ} → Counted list runs past i → length list ≤ i → runs ≡ length (runs_of list)
 unfolding runs_from
 counted_all {list} {runs} {past} {i} c h =
     omega (arith, c.all 0, ap (λ (ds : List ℕ). length (runs_from 0 past ds)) (drop_of_length-le list {i = i} h))
 
-pub ruleset counts = (next_day, first_day, counted_fits, counted_none, counted_first, counted_more, counted_all, rules)
-
-runs_same : (first past d : ℕ) (ds : List ℕ) → d ≡ past → runs_from first past (d ∷ ds) ≡ runs_from first (d + 1) ds
-unfolding runs_from joined
-runs_same first past d ds e = rw (eq-eqb d past e)
-
-runs_new : (first past d : ℕ) (ds : List ℕ) → (d ≡ past → ⊥) → runs_from first past (d ∷ ds) ≡ record { first = first; past = past } ∷ runs_from d (d + 1) ds
-unfolding runs_from joined
-runs_new first past d ds n = rw (ne_eqb d past n)
+pub ruleset counts = (next_day, first_day, counted_none, counted_first, counted_same, counted_new, counted_all, rules)
 
 event_first : (r : Run) (rs : List Run) → written (all_events (r ∷ rs)) ≡ written (event_lines r) ++ written (all_events rs)
 unfolding all_events
@@ -122,9 +103,13 @@ event_first r rs = written_more (event_lines r) (all_events rs)
 
 -- ---- putting: the events of the runs behind the open one stand from `at` on
 runs_some : (first past : ℕ) (ds : List ℕ) → 1 ≤ length (runs_from first past ds)
-unfolding runs_from
+unfolding runs_from joined
 runs_some first past [] = omega arith
-runs_some first past (d ∷ ds) = omega (arith, runs_next first past d ds, runs_some first (d + 1) ds)
+runs_some first past (d ∷ ds) = go (runs_some first (d + 1) ds) (eqb d past)
+  where
+    go : 1 ≤ length (runs_from first (d + 1) ds) → (e : Bool) → 1 ≤ length (joined e first past d (λ from. runs_from from (d + 1) ds))
+    go on true = on
+    go on false = omega arith
 
 pub record Laid (list : List ℕ) (at : ℕ) (old new : List ℕ) (first past next i : ℕ) : Type 0 where
   pub text : Bytes

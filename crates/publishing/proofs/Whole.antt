@@ -15,7 +15,10 @@ use Rattle.refusal.specs.Answer.{Answer, given, refused, need, CALENDAR, ROOM, I
 use Rattle.refusal.specs.Laws.Answers.{fails, holds}
 use Rattle.calendar.specs.Open.{closed_ok}
 use Rattle.holidays.specs.Words.{Bytes, ascii}
-use Rattle.publishing.specs.declared.Exported.TheVariants as exported-is
+use Rattle.std.specs.Prelude.{Ok, Err}
+use Rattle.refusal.specs.declared.Refusal.{Refusal}
+use Rattle.refusal.specs.declared.Refusal.TheVariants.{Calendar, Room, Ical}
+use Rattle.refusal.specs.Refusals.{number_of}
 use Rattle.publishing.specs.File.{before, behind, all_events, written, runs_of, file_of, export_of}
 use Rattle.publishing.specs.Promise.{answer_of, bytes_of, Exports}
 use Rattle.publishing.specs.Inner.Put.{Put}
@@ -39,9 +42,9 @@ last_room list old p e s h = omega (arith, p.ends, p.size, events_size (runs_of 
 
 -- ---- the ways through the export
 module _ (list file : List ℕ) where
-  refuses : (number : ℕ) → refused number ≡ export_of list (length file) → Exports list file (exported-is.Refused number) file
+  refuses : (r : Refusal) → refused (number_of r) ≡ export_of list (length file) → Exports list file (Err r) file
   unfolding answer_of bytes_of
-  refuses number e = record { answer = ap answer_of e; bytes = ap (λ (a : Answer Bytes). bytes_of a file) e }
+  refuses r e = record { answer = ap answer_of e; bytes = ap (λ (a : Answer Bytes). bytes_of a file) e }
 
   kept : (t : Bool) → t ≡ closed_ok list → not t ≡ false → closed_ok list ≡ true
   kept true e h = sym e
@@ -51,9 +54,9 @@ module _ (list file : List ℕ) where
   broke true e h = absurd (false≢true h)
   broke false e h = sym e
 
-  pub breaks_rule : (t : Bool) → t ≡ closed_ok list → not t ≡ true → Exports list file (exported-is.Refused CALENDAR) file
+  pub breaks_rule : (t : Bool) → t ≡ closed_ok list → not t ≡ true → Exports list file (Err Calendar) file
   unfolding export_of
-  breaks_rule t e h = refuses CALENDAR (fails CALENDAR (closed_ok list) _ (broke t e h))
+  breaks_rule t e h = refuses Calendar (fails CALENDAR (closed_ok list) _ (broke t e h))
 
   pub keeps_rule : (t : Bool) → t ≡ closed_ok list → not t ≡ false → closed_ok list ≡ true
   keeps_rule t e h = kept t e h
@@ -65,8 +68,8 @@ module _ (list file : List ℕ) where
         holds CALENDAR (closed_ok list) _ _ (kept t e h)
         (fails ICAL (leb (length (file_of list)) 65536) _ (lt-leb (length (file_of list)) 65536 (omega (arith, file_size list))))
 
-    pub over_size : 495 < runs → Exports list file (exported-is.Refused ICAL) file
-    over_size l = refuses ICAL (too_large l)
+    pub over_size : 495 < runs → Exports list file (Err Ical) file
+    over_size l = refuses Ical (too_large l)
 
     module _ (l : runs ≤ 495) where
       within : (a : Answer Bytes) → a ≡ need ROOM (leb (length (file_of list)) (length file)) (given (file_of list)) → a ≡ export_of list (length file)
@@ -75,9 +78,9 @@ module _ (list file : List ℕ) where
           holds CALENDAR (closed_ok list) _ _ (kept t e h)
           (holds ICAL (leb (length (file_of list)) 65536) _ _ (le-leb (length (file_of list)) 65536 (omega (arith, file_size list))) q)
 
-      pub no_room : length file < 132 * runs + 70 → Exports list file (exported-is.Refused ROOM) file
+      pub no_room : length file < 132 * runs + 70 → Exports list file (Err Room) file
       no_room r =
-          refuses ROOM (within (refused ROOM) (fails ROOM (leb (length (file_of list)) (length file)) _ (lt-leb (length (file_of list)) (length file) (omega (arith, file_size list)))))
+          refuses Room (within (refused ROOM) (fails ROOM (leb (length (file_of list)) (length file)) _ (lt-leb (length (file_of list)) (length file) (omega (arith, file_size list)))))
 
       module _ (r : 132 * runs + 70 ≤ length file) where
         pub file_room : 132 * length (runs_of list) + 70 ≤ length file
@@ -87,13 +90,13 @@ module _ (list file : List ℕ) where
           pub size_fits : Fits w32 size
           size_fits = record { fits = omega (arith, p.ends, file_size list) }
 
-          pub exports : Exports list file (exported-is.Bytes size) file'
+          pub exports : Exports list file (Ok size) file'
           unfolding answer_of bytes_of
           exports =
               let q : given (file_of list) ≡ export_of list (length file) = within (given (file_of list)) (holds ROOM (leb (length (file_of list)) (length file)) _ _ (le-leb (length (file_of list)) (length file) (omega (arith, file_size list))) refl) in
               let n : size ≡ length (file_of list) = omega (arith, p.ends) in
               record {
-                answer = ap exported-is.Bytes n ∙ ap answer_of q;
+                answer = ap (λ (k : ℕ). given k) n ∙ ap answer_of q;
                 bytes = sym (take-append-drop size file') ∙ ap (λ (s : List ℕ). s ++ drop size file') p.before ∙ ap (λ (s : List ℕ). file_of list ++ s) (p.behind ∙ ap (λ (k : ℕ). drop k file) n) ∙ ap (λ (a : Answer Bytes). bytes_of a file) q;
               }
 

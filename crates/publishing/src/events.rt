@@ -3,35 +3,26 @@ ghost use Rattle.std.specs.Prelude.{◌≡◌, true, ◌+◌, ◌*◌, ◌≤◌
 ghost use Rattle.calendar.specs.Open.{closed_ok};
 ghost use Rattle.publishing.specs.File.{runs_of, event_lines, all_events, written};
 ghost use Rattle.publishing.specs.Inner.Put.{Put};
-ghost use Rattle.publishing.specs.Inner.Runs.{is_new};
 
 use crate::puts::{put_bytes, put_date};
 
-// 1 where a day starts another run than the one up to `past`.
-fn new_run(day: u32, past: u32) -> usize
-    ensures { result ≡ is_new day past }
-{
-    if day == past {
-        return 0;
-    }
-    1
-}
-
+// How many runs there are: one more for each day that isn't the next one.
+#[tactic(auto, using(crate::proofs::Runs::counts))]
 pub(crate) fn count_runs(list: &[u32]) -> usize
     requires { closed_ok list.now ≡ true }
     ensures { result ≡ length (runs_of list.now) }
 {
-    if list.len() == 0 {
+    if list.is_empty() {
         return 0;
     }
     let mut runs = 1;
     let mut past = list[0] + 1;
-    let mut i = 1;
-    while i < list.len() {
+    for i in 1..list.len() {
         let day = list[i];
-        runs += new_run(day, past);
+        if day != past {
+            runs += 1;
+        }
         past = day + 1;
-        i += 1;
     }
     runs
 }
@@ -54,29 +45,25 @@ fn put_event(first: u32, past: u32, at: usize, out: &mut [u8]) -> usize
 }
 
 // An event for each run, put as soon as a day starts another one.
+#[tactic(auto, using(crate::proofs::Runs::layings))]
 pub(crate) fn put_events(list: &[u32], at: usize, out: &mut [u8]) -> usize
     requires list_value { closed_ok list.now ≡ true }
     requires list_in_bounds { at + 132 * length (runs_of list.now) ≤ length out.old }
     ensures { Put (written (all_events (runs_of list.now))) at out.old result out.new }
 {
-    if list.len() == 0 {
+    if list.is_empty() {
         return at;
     }
     let mut first = list[0];
     let mut past = first + 1;
     let mut next = at;
-    let mut i = 1;
-    while i < list.len() {
+    for i in 1..list.len() {
         let day = list[i];
-        if day == past {
-            past = day + 1;
-            i += 1;
-        } else {
+        if day != past {
             next = put_event(first, past, next, out);
             first = day;
-            past = day + 1;
-            i += 1;
         }
+        past = day + 1;
     }
     put_event(first, past, next, out)
 }

@@ -9,18 +9,12 @@ ghost use Rattle.publishing.specs.Promise.{Exports};
 
 use calendar::closed_dates;
 use puts::put_bytes;
+use refusal::Refusal;
 
 // Bytes put at a place of a lent list, one after the other.
 mod puts;
 // Events, one for each run of days.
 mod events;
-
-// How many bytes stand at the start of the lent file; or the number of the refusal.
-#[derive(Clone, Copy)]
-pub enum Exported {
-    Bytes(u32),
-    Refused(u8),
-}
 
 fn put_file(list: &[u32], file: &mut [u8]) -> usize
     requires list_value { closed_ok list.now ≡ true }
@@ -36,20 +30,20 @@ fn put_file(list: &[u32], file: &mut [u8]) -> usize
     put_bytes(b"END:VCALENDAR\r\n", last, file)
 }
 
-// The closed dates as a calendar file, which the import reads back. The file is written on success alone.
-pub fn export(list: &[u32], file: &mut [u8]) -> Exported
+/// The closed dates as a calendar file, which the import reads back; answers how many bytes it has. It is written on success alone.
+pub fn export(list: &[u32], file: &mut [u8]) -> Result<u32, Refusal>
     ensures { Exports list.now file.old result file.new }
 {
     if !closed_dates::keep_rule(list) {
-        return Exported::Refused(refusal::CALENDAR);
+        return Err(Refusal::Calendar);
     }
     let runs = events::count_runs(list);
     if 495 < runs {
-        return Exported::Refused(refusal::ICAL);
+        return Err(Refusal::Ical);
     }
     if file.len() < 132 * runs + 70 {
-        return Exported::Refused(refusal::ROOM);
+        return Err(Refusal::Room);
     }
     let size = put_file(list, file);
-    Exported::Bytes(size as u32)
+    Ok(size as u32)
 }

@@ -16,6 +16,7 @@ pub fn fill<R: Read>(input: &mut R, room: &mut [u8]) -> io::Result<usize>
     ensures err { OnErr result ((n : ℕ) × (n ≤ length room.new) × Consumes (R.remaining input.old) (R.remaining input.new) (take n room.new)) }
 {
     let mut done = 0;
+    // A turn goes on by as many bytes as a read put, so that no `for` says it more plainly.
     while done < room.len() {
         let n = input.read(&mut room[done..])?;
         if n == 0 {

@@ -6,39 +6,41 @@ use mathlib.Core.List.{List}
 use native.Mathlib.Omega.{arith}
 use lib.IntN.{ℤ}
 use lib.ListN.{length, take, drop}
+use Rattle.std.specs.Prelude.{Result, Ok, Err}
+use Rattle.refusal.specs.declared.Refusal.{Refusal}
+use Rattle.refusal.specs.Refusals.{number_of}
 use Rattle.refusal.specs.Answer.{Answer, given, refused, then}
 use Rattle.steps.specs.declared.Request.{Request}
 use Rattle.request.specs.declared.Decoded.{Decoded}
-use Rattle.request.specs.declared.Decoded.TheVariants as decoded-is
 use Rattle.request.specs.Format.{decoded}
 use Rattle.request.specs.Decode.{Decodes}
-use Rattle.request.specs.Laws.Held.{read_fits, held, unread, closed_part_lem}
+use Rattle.request.specs.Laws.Held.{read_fits, held, unread, closed_part}
 use Rattle.recorded.specs.Bytes.{request_in, closed_in}
 use Rattle.recorded.specs.Builds.{outcome, Reported}
 
-module _ (s old list : List ℕ) (r : Decoded) (d : Decodes (decoded s (length old)) r old list) where
+module _ (s old list : List ℕ) (r : Result Decoded Refusal) (d : Decodes (decoded s (length old)) r old list) where
   -- the part of the list that holds the closed dates
-  pub part_fits : (q : Request) (n : ℕ) → r ≡ decoded-is.Asked q n → length list ≡ length old → n ≤ length list
-  part_fits q n e l =
-      let h = held _ r q n d.answer e in
+  pub part_fits : (a : Decoded) → r ≡ Ok a → length list ≡ length old → a.closed ≤ length list
+  part_fits a e l =
+      let h = held _ r a d.answer e in
       let f = read_fits s (length old) h.asked h.from in
       omega (arith, f, h.count, l)
 
-  pub part_is : (q : Request) (n : ℕ) → r ≡ decoded-is.Asked q n → take (n - 0) (drop 0 list) ≡ closed_in (decoded s (length old))
+  pub part_is : (a : Decoded) → r ≡ Ok a → take (a.closed - 0) (drop 0 list) ≡ closed_in (decoded s (length old))
   unfolding closed_in
-  part_is q n e =
-      let h = held _ r q n d.answer e in
-      closed_part_lem _ old list h.asked n h.from d.list_after_lem h.count ∙ ap closed_in (sym h.from)
+  part_is a e =
+      let h = held _ r a d.answer e in
+      closed_part _ old list h.asked a.closed h.from d.dates h.count ∙ ap closed_in (sym h.from)
 
-  pub request_is : (q : Request) (n : ℕ) → r ≡ decoded-is.Asked q n → given q ≡ request_in (decoded s (length old))
+  pub request_is : (a : Decoded) → r ≡ Ok a → given a.request ≡ request_in (decoded s (length old))
   unfolding request_in
-  request_is q n e =
-      let h = held _ r q n d.answer e in
+  request_is a e =
+      let h = held _ r a d.answer e in
       rw h.from (ap given (sym h.request))
 
-  pub refusal_is : (n : ℕ) → r ≡ decoded-is.Refused n → refused n ≡ request_in (decoded s (length old))
+  pub refusal_is : (k : Refusal) → r ≡ Err k → refused (number_of k) ≡ request_in (decoded s (length old))
   unfolding request_in
-  refusal_is n e = rw (unread _ r n d.answer e) refl
+  refusal_is k e = rw (unread _ r k d.answer e) refl
 
 -- a refused request does not look at the closed dates
 pub closed_unread : {closed closed' dates flags unadjusted answer dates' flags' unadjusted' answer' : List ℕ} {r : ℤ} (n : ℕ) → Reported (refused n) closed r dates flags unadjusted answer dates' flags' unadjusted' answer' → Reported (refused n) closed' r dates flags unadjusted answer dates' flags' unadjusted' answer'

@@ -6,21 +6,19 @@ use mathlib.Core.Bool.{Bool, true, false, cond}
 use lib.Signed.{mag}
 use mir.Syntax.{w64}
 use mir.Val.{to_z, of_z}
-use mathlib.Core.List.{List, [], ◌∷◌}
+use mathlib.Core.List.{List}
 use native.Mathlib.Omega.{arith}
 use lib.Dec.{leb}
-use lib.IntN.{ℤ, pos, neg_ℤ, nat_abs}
-use lib.ListN.{length, set, length-set}
+use lib.IntN.{ℤ, pos, neg_ℤ}
+use lib.ListN.{length}
 use borrow.Author.Tests.{eq-eqb, ne_eqb, le-leb, lt-leb}
 use Rattle.refusal.specs.Answer.{Answer, given, refused, then}
 use Rattle.refusal.specs.Laws.Answers.{fails, holds, then_given, then_refused}
 use Rattle.steps.specs.declared.Request.{Request}
 use Rattle.steps.specs.declared.Built.{Built}
-use Rattle.steps.specs.Rules.{rule_number}
 use Rattle.steps.specs.Build.{refused_built, answered, over, dates_after, flags_after}
 use Rattle.steps.specs.Entries.{Entries, entries_of, paid_of, moved_of, unadjusted_after, Written}
 use Rattle.crossing.specs.Answers.{one_number_of}
-use Rattle.crossing.specs.Numbers.{unit_number}
 use Rattle.crossing.specs.Laws.Calls.{handed}
 use Rattle.recorded.specs.Builds.{outcome, how_many, record_of, record_numbers, recorded, count_in, Reported}
 
@@ -35,59 +33,20 @@ count_refused b r e h = h ∙ sym (ap (λ (t : Bool). cond t (pos b.count) (neg_
 
 -- of a build it is the outcome's
 pub count_answered : (q : Request) (o : Answer Entries) → count_in (answered q (moved_of o) (paid_of o)) ≡ one_number_of how_many o
-unfolding count_in answered one_number_of how_many paid_of moved_of then
+unfolding count_in answered how_many paid_of moved_of then
 count_answered q (given e) = refl
 count_answered q (refused zero) = refl
 count_answered q (refused (suc n)) = simp (ne_eqb (suc n) 0 (λ z. omega (arith, z)))
 
 pub count_unasked : (n : ℕ) → count_in (refused_built n) ≡ one_number_of how_many (refused n)
-unfolding count_in one_number_of
+unfolding count_in
 count_unasked zero = refl
 count_unasked (suc n) = simp (ne_eqb (suc n) 0 (λ z. omega (arith, z)))
-
--- ---- seven numbers put into a list with room
-short : {A : Type 0} (n : ℕ) → 7 ≤ n → n < 7 → A
-short n p q = let bad : ⊥ = omega (arith, p, q) in absurd bad
-
-seven_puts : (l : List ℕ) (a b c d e f g : ℕ) → 7 ≤ length l → set (set (set (set (set (set (set l 0 a) 1 b) 2 c) 3 d) 4 e) 5 f) 6 g ≡ over (a ∷ b ∷ c ∷ d ∷ e ∷ f ∷ g ∷ []) l
-unfolding over
-seven_puts [] a b c d e f g h = short 0 h (omega arith)
-seven_puts (x ∷ []) a b c d e f g h = short 1 h (omega arith)
-seven_puts (x ∷ y ∷ []) a b c d e f g h = short 2 h (omega arith)
-seven_puts (x ∷ y ∷ z ∷ []) a b c d e f g h = short 3 h (omega arith)
-seven_puts (x ∷ y ∷ z ∷ u ∷ []) a b c d e f g h = short 4 h (omega arith)
-seven_puts (x ∷ y ∷ z ∷ u ∷ v ∷ []) a b c d e f g h = short 5 h (omega arith)
-seven_puts (x ∷ y ∷ z ∷ u ∷ v ∷ w ∷ []) a b c d e f g h = short 6 h (omega arith)
-seven_puts (x ∷ y ∷ z ∷ u ∷ v ∷ w ∷ t ∷ l) a b c d e f g h = refl
-
-pub record_put : (l : List ℕ) (b : Built) (rule size unit : ℕ) → 7 ≤ length l → rule ≡ rule_number b.rule → size ≡ nat_abs b.tenor.length → unit ≡ unit_number b.tenor.unit → set (set (set (set (set (set (set l 0 b.number) 1 b.count) 2 b.tries) 3 rule) 4 size) 5 unit) 6 b.moved ≡ over (record_numbers b) l
-unfolding record_numbers
-record_put l b rule size unit h p q r = rw (← p, ← q, ← r) (seven_puts l b.number b.count b.tries rule size unit b.moved h)
-
--- the places stay within the list while they are filled
-module _ (l : List ℕ) (h : 7 ≤ length l) where
-  pub second : (a : ℕ) → 1 < length (set l 0 a)
-  second a = simp length-set (omega (arith, h))
-
-  pub third : (a b : ℕ) → 2 < length (set (set l 0 a) 1 b)
-  third a b = simp length-set (omega (arith, h))
-
-  pub fourth : (a b c : ℕ) → 3 < length (set (set (set l 0 a) 1 b) 2 c)
-  fourth a b c = simp length-set (omega (arith, h))
-
-  pub fifth : (a b c d : ℕ) → 4 < length (set (set (set (set l 0 a) 1 b) 2 c) 3 d)
-  fifth a b c d = simp length-set (omega (arith, h))
-
-  pub sixth : (a b c d e : ℕ) → 5 < length (set (set (set (set (set l 0 a) 1 b) 2 c) 3 d) 4 e)
-  sixth a b c d e = simp length-set (omega (arith, h))
-
-  pub seventh : (a b c d e f : ℕ) → 6 < length (set (set (set (set (set (set l 0 a) 1 b) 2 c) 3 d) 4 e) 5 f)
-  seventh a b c d e f = simp length-set (omega (arith, h))
 
 -- ---- a way through a build: the record does not fit, the request was refused, or it was built
 module _ (x : Answer Request) (closed dates flags unadjusted answer : List ℕ) {r : ℤ} (s : mag r < 9223372036854775808) where
   pub reported_short : length answer < 7 → r ≡ neg_ℤ (pos 14) → Reported x closed (to_z w64 (of_z w64 r)) dates flags unadjusted answer dates flags unadjusted answer
-  unfolding one_number_of outcome dates_after flags_after unadjusted_after paid_of then recorded
+  unfolding outcome dates_after flags_after unadjusted_after paid_of then recorded
   reported_short h e =
       let t : leb 7 (length answer) ≡ false = lt-leb 7 (length answer) h in
       let o : refused 14 ≡ outcome x closed dates flags unadjusted answer = fails 14 _ _ t in

@@ -4,38 +4,39 @@
 
 ghost use Rattle.std.specs.Prelude.{◌≡◌, ◌≤◌, length};
 ghost use Rattle.steps.specs.Build.{over};
-ghost use Rattle.crossing.specs.Requests.{asked};
+ghost use Rattle.refusal.specs.Answer.{answered};
 ghost use Rattle.request.specs.Format.{decoded};
 ghost use Rattle.recorded.specs.Bytes.{request_in, closed_in};
 ghost use Rattle.recorded.specs.Builds.{record_numbers, count_in, Reported};
 
 use crossing::answers;
-use crossing::requests::FromNumbers;
 use period::sign;
+use refusal::Refusal;
 use request::Decoded;
-use steps::{Built, rules};
+use steps::{Built, Request, rules};
 
 fn put_record(b: Built, answer: &mut [u32])
     requires { 7 ≤ length answer.old }
     ensures { answer.new ≡ over (record_numbers b) answer.old }
 {
-    answer[0] = b.number as u32;
-    answer[1] = b.count;
-    answer[2] = b.tries;
-    let rule = b.rule;
-    answer[3] = rules::rule_number(rule) as u32;
-    let tenor = b.tenor;
-    answer[4] = sign::size(tenor.length);
-    let unit = tenor.unit;
-    answer[5] = crossing::unit_number(unit);
-    answer[6] = b.moved;
+    let numbers = [
+        b.number as u32,
+        b.count,
+        b.tries,
+        rules::rule_number(b.rule) as u32,
+        sign::size(b.tenor.length),
+        crossing::unit_number(b.tenor.unit),
+        b.moved,
+    ];
+    answer[..7].copy_from_slice(&numbers);
 }
 
+#[tactic(auto, unfolding(crate::specs::Builds::count_in))]
 fn count_in(b: Built) -> i64
     ensures { result ≡ count_in b }
 {
     if b.number == 0 {
-        return answers::value(b.count);
+        return i64::from(b.count);
     }
     answers::minus(b.number)
 }
@@ -50,24 +51,24 @@ fn report(b: Built, answer: &mut [u32]) -> i64
 
 // Builds what was asked for, and puts the record of it into the start of `answer`.
 pub fn build(
-    request: FromNumbers,
+    request: Result<Request, Refusal>,
     closed: &[u32],
     dates: &mut [u32],
     flags: &mut [u8],
     unadjusted: &mut [u32],
     answer: &mut [u32],
 ) -> i64
-    ensures { Reported (asked request) closed.now result dates.old flags.old unadjusted.old answer.old dates.new flags.new unadjusted.new answer.new }
+    ensures { Reported (answered request) closed.now result dates.old flags.old unadjusted.old answer.old dates.new flags.new unadjusted.new answer.new }
 {
     if answer.len() < 7 {
-        return answers::minus(refusal::ROOM);
+        return answers::refused(Refusal::Room);
     }
     match request {
-        FromNumbers::Is(q) => {
+        Ok(q) => {
             let built = schedule::build(q, closed, dates, flags, unadjusted);
             report(built, answer)
         }
-        FromNumbers::Refused(n) => report(steps::refused(n), answer),
+        Err(refusal) => report(steps::refused(refusal.number()), answer),
     }
 }
 
@@ -82,27 +83,14 @@ fn build_read(
 ) -> i64
     ensures { Reported (request_in (decoded bytes.now (length closed.old))) (closed_in (decoded bytes.now (length closed.old))) result dates.old flags.old unadjusted.old answer.old dates.new flags.new unadjusted.new answer.new }
 {
-    let read = request::decode(bytes, closed);
-    match read {
-        Decoded::Asked {
-            request: q,
-            closed: n,
-        } => build(
-            FromNumbers::Is(q),
-            &closed[0..n],
-            dates,
-            flags,
-            unadjusted,
-            answer,
-        ),
-        Decoded::Refused(k) => build(
-            FromNumbers::Refused(k),
-            closed,
-            dates,
-            flags,
-            unadjusted,
-            answer,
-        ),
+    match request::decode(bytes, closed) {
+        Ok(
+            Decoded {
+                request: q,
+                closed: n,
+            },
+        ) => build(Ok(q), &closed[0..n], dates, flags, unadjusted, answer),
+        Err(refusal) => build(Err(refusal), closed, dates, flags, unadjusted, answer),
     }
 }
 

@@ -2,12 +2,10 @@
 // first that does not. The file `answers` is a text of numbers; oracle/replay.py makes it and says what they stand for.
 #![tactic(auto)]
 
-ghost use Rattle.std.specs.Prelude.{◌≡◌, length};
-
 use capi::builds::heronspan_build;
 use std::num::wrapping_add_u32;
 use std::{fs, io};
-use words::{field, same, same_flags, signed, small, word};
+use words::{field, same, signed, small, word};
 
 // The stored numbers.
 mod words;
@@ -15,13 +13,13 @@ mod words;
 mod questions;
 
 // How the records so far compare: the place of the next one, how many were asked, how many agreed, and the first that did
-// not, counted from 1 (0: none).
+// not, counted from 1.
 #[derive(Drop)]
 struct Tally {
     at: u32,
     asked: u32,
     agreed: u32,
-    first: u32,
+    first: Option<u32>,
 }
 
 fn ask_build(
@@ -54,7 +52,7 @@ fn ask_build(
 }
 
 fn one_fewer(n: u32) -> u32 {
-    if n == 0 { 0 } else { n - 1 }
+    n.saturating_sub(1)
 }
 
 // A build agrees if the first six numbers of its record, its paid dates and its flags do: the Rust has no unadjusted dates.
@@ -77,7 +75,7 @@ fn build_agrees(words: &[u32], at: u32, closed: &[u32], told: u32) -> bool {
     let flagged = wrapping_add_u32(listed, count);
     same(&answer, words, told, 6)
         && same(&dates, words, listed, count)
-        && same_flags(&flags, words, flagged, one_fewer(count))
+        && same(&flags, words, flagged, one_fewer(count))
 }
 
 // Whether an answer is minus a refusal's number; 99 stands for any.
@@ -127,10 +125,6 @@ fn agrees_at(words: &[u32], at: u32) -> bool {
     agrees(words, at, wrapping_add_u32(at, 10), field(words, at, 9))
 }
 
-fn first_of(first: u32, asked: u32) -> u32 {
-    if first == 0 { asked } else { first }
-}
-
 // The tally with the next record, which begins with how many numbers follow in it.
 fn with_next(words: &[u32], t: Tally) -> Tally {
     let asked = wrapping_add_u32(t.asked, 1);
@@ -147,7 +141,7 @@ fn with_next(words: &[u32], t: Tally) -> Tally {
         at,
         asked,
         agreed: t.agreed,
-        first: first_of(t.first, asked),
+        first: t.first.or(Some(asked)),
     }
 }
 
@@ -156,10 +150,10 @@ fn replay(words: &[u32]) -> Tally {
         at: 1,
         asked: 0,
         agreed: 0,
-        first: 0,
+        first: None,
     };
     let records = word(words, 0);
-    for k in 0..records {
+    for _ in 0..records {
         t = with_next(words, t);
     }
     t
@@ -167,21 +161,14 @@ fn replay(words: &[u32]) -> Tally {
 
 fn print(rt: &impl Print, t: Tally) -> io::Result<()> {
     println!(rt; "{} of {} answers agree", t.agreed, t.asked)?;
-    if t.first != 0 {
-        println!(rt; "the first that does not is number {}", t.first)?;
+    if let Some(first) = t.first {
+        println!(rt; "the first that does not is number {first}")?;
     }
     Ok(())
 }
 
-// Room for the numbers. The `ensures` gives only the length, which lending an array as a slice needs.
-fn words_room() -> [u32; 196608]
-    ensures { 196608 ≡ length result }
-{
-    [0; 196608]
-}
-
 fn main(rt: HostRuntime) -> io::Result<()> {
-    let mut words = words_room();
+    let mut words = words::room::<u32, 196608>(0);
     words::read_numbers(&mut fs::open(&rt, "answers")?, &mut words)?;
     print(&rt, replay(&words))
 }

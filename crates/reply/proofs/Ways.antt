@@ -9,10 +9,15 @@ use lib.Dec.{leb}
 use lib.ListN.{length, take, drop, get_or, replicate, length-append}
 use lib.Seq.{take-append_seam, get_or-drop}
 use borrow.Author.Tests.{leb-true, le-leb}
-use Rattle.refusal.specs.Answer.{Answer, given, refused, then}
+use Rattle.std.specs.Prelude.{Result, Ok, Err}
+use Rattle.refusal.specs.declared.Refusal.{Refusal}
+use Rattle.refusal.specs.Refusals.{number_of}
+use Rattle.refusal.specs.Answer.{Answer, given, refused, answered, then}
+use Rattle.refusal.specs.Laws.Answers.{one_given, never_both}
 use Rattle.steps.specs.declared.Request.{Request}
 use Rattle.steps.specs.declared.Built.{Built}
-use Rattle.steps.specs.Build.{answered, over, dates_after, flags_after}
+use Rattle.steps.specs.Build as build
+use Rattle.steps.specs.Build.{over, dates_after, flags_after}
 use Rattle.steps.specs.Entries.{Entries, entries_of, paid_of, unadjusted_after, Written}
 use Rattle.steps.specs.Laws.Counts.{build_flagged}
 use Rattle.steps.specs.Laws.Tries.{build_tries}
@@ -20,10 +25,8 @@ use Rattle.steps.specs.Laws.Entries.{its_schedule, as_many_unadjusted}
 use Rattle.outcomes.proofs.Refusals.{never_zero}
 use Rattle.outcomes.proofs.Uneven.{refused_as_before}
 use Rattle.request.specs.declared.Decoded.{Decoded}
-use Rattle.request.specs.declared.Decoded.TheVariants as decoded-is
 use Rattle.request.specs.Format.{Asked, decoded}
-use Rattle.request.specs.Decode as request
-use Rattle.request.specs.Decode.{Decodes, closed_dates_after}
+use Rattle.request.specs.Decode.{counted, closed_dates_after, Decodes}
 use Rattle.printing.specs.Text.{pick, later_lines, lines, schedule_text, refusal_text}
 use Rattle.printing.specs.Put.{Put, fitting}
 use Rattle.printing.specs.Laws.Lengths.{schedule_fits, refusal_fits}
@@ -122,7 +125,7 @@ Paired o = (e : Entries) → o ≡ given e → length e.unadjusted ≡ length e.
 module _ {q : Request} {r : Built} {dates flags unadjusted dates' flags' unadjusted' : List ℕ} where
   -- the number tells, as no build is refused 0
   shown_built : (o : Answer Entries) → Paired o → (o ≡ refused 0 → ⊥) → Written q o r dates flags unadjusted dates' flags' unadjusted' → Zeros flags → shown_text r dates' flags' unadjusted' ≡ built_text o
-  unfolding Paired shown_text built_text by_number_of answered dates_after flags_after unadjusted_after paid_of then
+  unfolding Paired shown_text built_text by_number_of build.answered dates_after flags_after unadjusted_after paid_of then
   shown_built (given e) k n w z =
       let t : take (length e.schedule.dates) (over e.unadjusted unadjusted) ≡ e.unadjusted = rw (sym (k e refl)) (take_over e.unadjusted unadjusted) in
       rw (w.answer, w.dates_after_lem, w.flags_after_lem, w.unadjusted_after_lem, take_over e.schedule.dates dates, t)
@@ -131,7 +134,7 @@ module _ {q : Request} {r : Built} {dates flags unadjusted dates' flags' unadjus
   shown_built (refused (suc m)) k n w z = rw w.answer
 
   counts_fit : (o : Answer Entries) → Paired o → Written q o r dates flags unadjusted dates' flags' unadjusted' → (r.count ≤ length dates') × (r.count ≤ length unadjusted')
-  unfolding Paired answered dates_after unadjusted_after paid_of then
+  unfolding Paired build.answered dates_after unadjusted_after paid_of then
   counts_fit (given e) k w =
       (rw (w.answer, w.dates_after_lem) (over_length e.schedule.dates dates), rw (w.answer, w.unadjusted_after_lem) (omega (arith, k e refl, over_length e.unadjusted unadjusted)))
   counts_fit (refused n) k w = (rw w.answer (omega arith), rw w.answer (omega arith))
@@ -153,58 +156,46 @@ module _ {q : Request} {r : Built} {dates flags unadjusted dates' flags' unadjus
       }
 
 -- ---- a request
-module _ {r : Decoded} {closed closed' : List ℕ} where
-  asked_replies : (o : Answer Asked) (q : Request) (count : ℕ) {old new : List ℕ} {end : ℕ} → Decodes o r closed closed' → r ≡ decoded-is.Asked q count → Replies (built_text (entries_of q (take count closed') 4096 4096 4096)) old end new → Replies (asked_text o) old end new
-  unfolding asked_text request.answered closed_dates_after
-  asked_replies (given a) q count {old} {new} {end} w e p =
-      let e' : decoded-is.Asked a.request (length a.closed) ≡ decoded-is.Asked q count = sym w.answer ∙ e in
-      let n : length a.closed ≡ count = cc in
-      let same : q ≡ a.request = cc in
-      let c : closed' ≡ over a.closed closed = w.list_after_lem in
-      let t : take count closed' ≡ a.closed = rw (sym n, c) (take_over a.closed closed) in
-      rw (t, same) at p
-  asked_replies (refused n) q count w e p =
-      let e' : decoded-is.Refused n ≡ decoded-is.Asked q count = sym w.answer ∙ e in
-      let z : ◌≡◌ {A = ℕ} 0 1 = cc in
-      let bad : ⊥ = omega arith in
-      absurd bad
+module _ {r : Result Decoded Refusal} {closed closed' : List ℕ} where
+  asked_replies : (o : Answer Asked) (d : Decoded) {old new : List ℕ} {end : ℕ} → Decodes o r closed closed' → r ≡ Ok d → Replies (built_text (entries_of d.request (take d.closed closed') 4096 4096 4096)) old end new → Replies (asked_text o) old end new
+  unfolding asked_text counted closed_dates_after
+  asked_replies (given a) d {old} {new} {end} w e p =
+      let same : d ≡ record { request = a.request; closed = length a.closed } = one_given (answered r) _ _ (ap answered e) w.answer in
+      let n : length a.closed ≡ d.closed = sym (ap (λ (x : Decoded). x.closed) same) in
+      let q : d.request ≡ a.request = ap (λ (x : Decoded). x.request) same in
+      let c : closed' ≡ over a.closed closed = w.dates in
+      let t : take d.closed closed' ≡ a.closed = rw (sym n, c) (take_over a.closed closed) in
+      rw (t, q) at p
+  asked_replies (refused n) d w e p = absurd (never_both (answered r) d n (ap answered e) w.answer)
 
-  refused_replies : (o : Answer Asked) (n : ℕ) {old new : List ℕ} {end : ℕ} → Decodes o r closed closed' → r ≡ decoded-is.Refused n → Put (fitting (refusal_text n) (length old)) 0 old end new → Replies (asked_text o) old end new
-  unfolding asked_text request.answered
-  refused_replies (given a) n w e p =
-      let e' : decoded-is.Asked a.request (length a.closed) ≡ decoded-is.Refused n = sym w.answer ∙ e in
-      let z : ◌≡◌ {A = ℕ} 0 1 = cc in
-      let bad : ⊥ = omega arith in
-      absurd bad
-  refused_replies (refused m) n w e p =
-      let e' : decoded-is.Refused m ≡ decoded-is.Refused n = sym w.answer ∙ e in
-      let same : n ≡ m = cc in
+  refused_replies : (o : Answer Asked) (k : Refusal) {old new : List ℕ} {end : ℕ} → Decodes o r closed closed' → r ≡ Err k → Put (fitting (refusal_text (number_of k)) (length old)) 0 old end new → Replies (asked_text o) old end new
+  unfolding asked_text counted
+  refused_replies (given a) k w e p = absurd (never_both (answered r) _ (number_of k) w.answer (ap answered e))
+  refused_replies (refused m) k w e p =
+      let both : ◌≡◌ {A = Answer Decoded} (refused (number_of k)) (refused m) = sym (ap answered e) ∙ w.answer in
+      let same : number_of k ≡ m = cc in
       record { put = rw same at p; within = put_within _ p; short = refusal_fits m }
 
-  asked_count : (o : Answer Asked) (q : Request) (count : ℕ) → Decodes o r closed closed' → r ≡ decoded-is.Asked q count → count ≤ length closed'
-  unfolding request.answered closed_dates_after
-  asked_count (given a) q count w e =
-      let e' : decoded-is.Asked a.request (length a.closed) ≡ decoded-is.Asked q count = sym w.answer ∙ e in
-      let n : length a.closed ≡ count = cc in
-      let c : closed' ≡ over a.closed closed = w.list_after_lem in
+  asked_count : (o : Answer Asked) (d : Decoded) → Decodes o r closed closed' → r ≡ Ok d → d.closed ≤ length closed'
+  unfolding counted closed_dates_after
+  asked_count (given a) d w e =
+      let same : d ≡ record { request = a.request; closed = length a.closed } = one_given (answered r) _ _ (ap answered e) w.answer in
+      let n : length a.closed ≡ d.closed = sym (ap (λ (x : Decoded). x.closed) same) in
+      let c : closed' ≡ over a.closed closed = w.dates in
       omega (arith, over_length a.closed closed, ap length c)
-  asked_count (refused n) q count w e =
-      let e' : decoded-is.Refused n ≡ decoded-is.Asked q count = sym w.answer ∙ e in
-      let z : ◌≡◌ {A = ℕ} 0 1 = cc in
-      let bad : ⊥ = omega arith in
-      absurd bad
+  asked_count (refused n) d w e = absurd (never_both (answered r) d n (ap answered e) w.answer)
 
   module _ (bytes : List ℕ) (w : Decodes (decoded bytes (length closed)) r closed closed') where
-    pub served : (q : Request) (count : ℕ) {old new : List ℕ} {end : ℕ} → length closed ≡ 4096 → r ≡ decoded-is.Asked q count → Replies (built_text (entries_of q (take count closed') 4096 4096 4096)) old end new → Replies (reply_text bytes) old end new
+    pub served : (d : Decoded) {old new : List ℕ} {end : ℕ} → length closed ≡ 4096 → r ≡ Ok d → Replies (built_text (entries_of d.request (take d.closed closed') 4096 4096 4096)) old end new → Replies (reply_text bytes) old end new
     unfolding reply_text
-    served q count l e p = asked_replies (decoded bytes 4096) q count (rw l at w) e p
+    served d l e p = asked_replies (decoded bytes 4096) d (rw l at w) e p
 
-    pub turned_away : (n : ℕ) {old new : List ℕ} {end : ℕ} → length closed ≡ 4096 → r ≡ decoded-is.Refused n → Put (fitting (refusal_text n) (length old)) 0 old end new → Replies (reply_text bytes) old end new
+    pub turned_away : (k : Refusal) {old new : List ℕ} {end : ℕ} → length closed ≡ 4096 → r ≡ Err k → Put (fitting (refusal_text (number_of k)) (length old)) 0 old end new → Replies (reply_text bytes) old end new
     unfolding reply_text
-    turned_away n l e p = refused_replies (decoded bytes 4096) n (rw l at w) e p
+    turned_away k l e p = refused_replies (decoded bytes 4096) k (rw l at w) e p
 
-    pub served_count : (q : Request) (count : ℕ) → r ≡ decoded-is.Asked q count → count ≤ length closed'
-    served_count q count e = asked_count (decoded bytes (length closed)) q count w e
+    pub served_count : (d : Decoded) → r ≡ Ok d → d.closed ≤ length closed'
+    served_count d e = asked_count (decoded bytes (length closed)) d w e
 
 -- ---- a text in 106,519 bytes
 pub printed_whole : (text : List ℕ) {old new : List ℕ} {end : ℕ} → length old ≡ 106519 → Replies text old end new → Printed text old end new

@@ -7,7 +7,6 @@ ghost use Rattle.printing.specs.Put.{Put, fitting};
 ghost use Rattle.reply.specs.Reply.{built_text, reply_text, Replies, Printed, Zeros};
 ghost use Rattle.reply.specs.Shown.{shown_text};
 
-use request::Decoded;
 use steps::{Built, Request};
 
 // The text of what was built: its dates, flags and unadjusted dates stand at the start of the lists.
@@ -65,11 +64,15 @@ fn serve(
     ensures { Replies (reply_text input.now) out.old result out.new }
 {
     match request::decode(input, closed) {
-        Decoded::Refused(n) => printing::refusal(n, out),
-        Decoded::Asked {
-            request,
-            closed: count,
-        } => reply(request, &closed[..count], dates, flags, unadjusted, out),
+        Err(refusal) => printing::refusal(refusal.number(), out),
+        Ok(asked) => reply(
+            asked.request,
+            &closed[..asked.closed],
+            dates,
+            flags,
+            unadjusted,
+            out,
+        ),
     }
 }
 

@@ -1,216 +1,116 @@
 -- Laws of what the fields ask for: one for each way through the code.
 -- Assumes nothing.
-use Prim.Native.Nat.{ℕ, ◌+◌, ◌-◌, ◌/◌, ◌%◌, ◌≤◌, ◌<◌}
+use Prim.Native.Nat.{ℕ, ◌+◌, ◌-◌, ◌/◌, ◌≤◌, ◌<◌}
 use mathlib.Core.Path.{◌≡◌, refl, sym, ap, ◌∙◌}
-use mathlib.Core.Bool.{Bool, true, false, ◌&&◌, false≢true}
-use mathlib.Core.List.{List, [], ◌∷◌}
-use native.Mathlib.Nat.{add-zero}
+use mathlib.Core.Bool.{Bool, true, false, ◌&&◌}
+use mathlib.Core.List.{List, []}
 use native.Mathlib.Omega.{arith}
-use borrow.Author.Rules.{rules as search_rules}
-use borrow.Author.Tests.{eq-eqb, ne_eqb, eqb-true}
-use lib.Dec.{eqb, leb}
-use lib.IntN.{ℤ, pos}
-use lib.ListN.{length, get_or, take, drop, length-drop}
-use lib.Seq.{get_or-take, get_or-drop, length-take-le}
+use borrow.Author.Rules.{rules}
+use borrow.Author.Tests.{eq-eqb, ne_eqb, le-leb, lt-leb, le-ltb, lt-ltb}
+use lib.Dec.{leb}
+use lib.IntN.{ℤ}
+use lib.ListN.{length, get_or, take, drop}
 use mir.Syntax.{w32}
 use mir.Val.{SFits, to_z, of_z}
 use mir.Facts.{to_z-of_z}
+use Rattle.refusal.specs.Answer.{given}
+use Rattle.refusal.specs.Laws.Answers.{fails, holds}
+use Rattle.steps.specs.declared.Request.{Request}
+use Rattle.steps.specs.Build.{over}
+use Rattle.request.specs.declared.Decoded.{Decoded}
+use Rattle.std.specs.Prelude.{Result, Ok, Err}
+use Rattle.refusal.specs.declared.Refusal.{Refusal}
+use Rattle.refusal.specs.declared.Refusal.TheVariants as refusal-is
 use Rattle.period.specs.declared.Unit.{Unit}
-use Rattle.period.specs.declared.Unit.TheVariants.{Days}
-use Rattle.period.specs.declared.Period.{Period}
-use Rattle.date.specs.declared.Date.{Date}
-use Rattle.calendar.specs.declared.Convention.{Convention}
-use Rattle.steps.specs.declared.Rule.{Rule}
-use Rattle.calendar.specs.Adjust.{conventions}
-use Rattle.steps.specs.Rules.{rules}
-use Rattle.request.specs.Format.{pick, four, signed16, is_date, is_tenor, is_below, are_dates, body_ok, byte_of, date_of, unit_of, tenor_of, rule_of, convention_of, request_from}
+use Rattle.request.specs.Format.{signed16, is_date, byte_of, unit_of, tenor_of, dates_of, request_from, closed_from, asked_from}
+use Rattle.request.specs.Inner.Places.{two_at, Pair, placed}
+use Rattle.request.specs.Stored.{body_in, width_of, stored, stored_in}
 use Rattle.request.specs.Laws.Picks.{taken, left}
-use Rattle.request.specs.Inner.Places.{two_at, Pair, body_at, Sized, Lies, PlacesKept}
+use Rattle.request.specs.Decode.{counted, closed_dates_after, Decodes}
+use Rattle.request.specs.Laws.Promise.{refuses, same_promise}
+use Rattle.request.proofs.WriteWays.{dates_length}
 
--- ---- a body that was left out, and one that is there
-module _ (bytes : List ℕ) {place : ℕ} where
-  pub left_out_body : (left_out : List ℕ) → place ≡ 0 → body_at bytes left_out place ≡ left_out
-  left_out_body left_out e = taken _ _ (eq-eqb place 0 e)
+both : {a b x y : Bool} → a ≡ x → b ≡ y → a && b ≡ x && y
+both p q = cc
 
-  module _ {n : ℕ} (some : place ≡ 0 → ⊥) (s : Sized bytes place n) where
-    pub body_there : (left_out : List ℕ) → body_at bytes left_out place ≡ take n (drop place bytes)
-    body_there left_out = left _ _ (ne_eqb place 0 some) ∙ ap (λ (k : ℕ). take k (drop place bytes)) s.size
+module _ (body : List ℕ → ℕ → List ℕ) (l : List ℕ) where
+  pub ask_first : is_date (body [] 1) ≡ false → Decodes (asked_from (length l) body) (Err refusal-is.Request) l l
+  unfolding asked_from
+  ask_first e = refuses refusal-is.Request (fails 17 _ _ (ap (λ (b : Bool). b && is_date (body [] 2)) e))
 
-    byte_there : (left_out : List ℕ) (i : ℕ) → i < n → get_or (body_at bytes left_out place) i 0 ≡ get_or bytes (place + i) 0
-    byte_there left_out i h =
-        ap (λ (l : List ℕ). get_or l i 0) (body_there left_out) ∙ get_or-take n (drop place bytes) i 0 h ∙ get_or-drop place bytes i 0
+  module _ (first : is_date (body [] 1) ≡ true) where
+    pub ask_second : is_date (body [] 2) ≡ false → Decodes (asked_from (length l) body) (Err refusal-is.Request) l l
+    unfolding asked_from
+    ask_second e = refuses refusal-is.Request (fails 17 _ _ (both first e))
 
-    pub long_there : (left_out : List ℕ) → length (body_at bytes left_out place) ≡ n
-    long_there left_out =
-        ap length (body_there left_out) ∙ length-take-le n (drop place bytes) (omega (arith, length-drop place bytes, s.inside))
+    module _ (second : is_date (body [] 2) ≡ true) {s : List ℕ} (is : s ≡ body [] 11) where
+      closed_is : closed_from body ≡ dates_of (length s / 4) s
+      unfolding closed_from
+      closed_is = sym (ap (λ (z : List ℕ). dates_of (length z / 4) z) is)
 
--- ---- dates
-pub date_none : (bytes : List ℕ) (place : ℕ) → place ≡ 0 → record { day = 0 } ≡ date_of (body_at bytes [] place)
-unfolding date_of
-date_none bytes place e = sym (ap date_of (left_out_body bytes [] e))
+      closed_long : length (closed_from body) ≡ length s / 4
+      closed_long = ap length closed_is ∙ dates_length (length s / 4) s
 
-module _ (bytes : List ℕ) (place : ℕ) (some : place ≡ 0 → ⊥) (lies : (place ≡ 0 → ⊥) → Sized bytes place 4) where
-  pub date_inside : place + 4 ≤ length bytes
-  date_inside = (lies some).inside
+      pub ask_room : length l < length s / 4 → Decodes (asked_from (length l) body) (Err refusal-is.Room) l l
+      unfolding asked_from
+      ask_room h = refuses refusal-is.Room (holds 17 _ _ _ (both first second) (fails 14 _ _ (lt-leb (length (closed_from body)) (length l) (omega (arith, h, closed_long)))))
 
-  pub date_some : {r : ℕ} → r ≡ four (get_or bytes place 0) (get_or bytes (place + 1) 0) (get_or bytes (place + 2) 0) (get_or bytes (place + 3) 0) → record { day = r } ≡ date_of (body_at bytes [] place)
-  unfolding date_of
-  date_some e =
-      let a : get_or (body_at bytes [] place) 0 0 ≡ get_or bytes place 0 = byte_there bytes some (lies some) [] 0 (omega arith) ∙ ap (λ (k : ℕ). get_or bytes k 0) (add-zero place) in
-      let b : get_or (body_at bytes [] place) 1 0 ≡ get_or bytes (place + 1) 0 = byte_there bytes some (lies some) [] 1 (omega arith) in
-      let c : get_or (body_at bytes [] place) 2 0 ≡ get_or bytes (place + 2) 0 = byte_there bytes some (lies some) [] 2 (omega arith) in
-      let d : get_or (body_at bytes [] place) 3 0 ≡ get_or bytes (place + 3) 0 = byte_there bytes some (lies some) [] 3 (omega arith) in
-      cc
+      module _ (fits : length s / 4 ≤ length l) {l' : List ℕ} (wrote : l' ≡ over (dates_of (length s / 4) s) l) {q : Request} (asks : q ≡ request_from body) where
+        asked : given (record { request = request_from body; closed = closed_from body }) ≡ asked_from (length l) body
+        unfolding asked_from
+        asked = holds 17 _ _ _ (both first second) (holds 14 _ _ _ (le-leb (length (closed_from body)) (length l) (omega (arith, fits, closed_long))) refl)
 
-pub ruleset dates = (date_none, date_inside, date_some, search_rules)
+        pub ask_given : Decodes (asked_from (length l) body) (Ok (record { request = q; closed = length s / 4 })) l l'
+        unfolding counted closed_dates_after
+        ask_given =
+            let n : length s / 4 ≡ length (closed_from body) = sym closed_long in
+            same_promise asked (record { answer = ap given (λ i. record { request = asks i; closed = n i }); dates = wrote ∙ ap (λ (x : List ℕ). over x l) (sym closed_is) })
 
--- ---- bytes
-pub byte_none : (bytes : List ℕ) (place absent : ℕ) → place ≡ 0 → absent ≡ byte_of (body_at bytes (absent ∷ []) place)
-byte_none bytes place absent e = sym (ap (λ (l : List ℕ). get_or l 0 0) (left_out_body bytes (absent ∷ []) e))
+-- ---- a tenor, with a length that 32 bits hold
+pub tenor_is : (body : List ℕ) {r : ℕ} {z : ℤ} {u : Unit} → Pair body 1 r → SFits w32 z → z ≡ signed16 r → u ≡ unit_of (byte_of body) → record { length = to_z w32 (of_z w32 z); unit = u } ≡ tenor_of body
+unfolding tenor_of
+tenor_is body {r} {z} {u} p f e q =
+    let n : to_z w32 (of_z w32 z) ≡ z = to_z-of_z {w = w32} {z = z} f in
+    let m : r ≡ two_at body 1 = p.same in
+    cc
 
-module _ (bytes : List ℕ) (place : ℕ) (some : place ≡ 0 → ⊥) (lies : (place ≡ 0 → ⊥) → Sized bytes place 1) where
-  pub byte_inside : place < length bytes
-  byte_inside = omega (arith, (lies some).inside)
+-- ---- bodies behind their headers
+module _ (bytes places left_out : List ℕ) (tag : ℕ) {p : ℕ} (at : p ≡ get_or places tag 0) where
+  pub placed_none : p ≡ 0 → left_out ≡ placed bytes places left_out tag
+  placed_none e = sym (taken _ _ (eq-eqb (get_or places tag 0) 0 (sym at ∙ e)))
 
-  pub byte_some : (absent : ℕ) → get_or bytes place 0 ≡ byte_of (body_at bytes (absent ∷ []) place)
-  byte_some absent = sym (byte_there bytes some (lies some) (absent ∷ []) 0 (omega arith) ∙ ap (λ (k : ℕ). get_or bytes k 0) (add-zero place))
+  module _ (some : p ≡ 0 → ⊥) where
+    pub placed_some : {n : ℕ} → Pair bytes (p - 2) n → take (p + n - p) (drop p bytes) ≡ placed bytes places left_out tag
+    placed_some {n} pair =
+        let e : p + n - p ≡ n = omega arith in
+        let s : n ≡ two_at bytes (p - 2) = pair.same in
+        rw (e, s) (rw at (sym (left _ _ (ne_eqb (get_or places tag 0) 0 (λ z. some (at ∙ z))))))
 
-pub ruleset single = (byte_none, byte_inside, byte_some, search_rules)
+-- ---- bodies without headers
+module _ (bytes places left_out : List ℕ) (count tag : ℕ) where
+  pub stored_nowhere : 12 ≤ tag → left_out ≡ stored bytes places count left_out tag
+  unfolding stored
+  stored_nowhere h = sym (left _ _ (le-ltb tag 12 h))
 
--- ---- tenors
-pub tenor_none : (bytes : List ℕ) (place : ℕ) → place ≡ 0 → record { length = pos 0; unit = Days } ≡ tenor_of (body_at bytes (68 ∷ 0 ∷ 0 ∷ []) place)
-unfolding tenor_of signed16 unit_of pick
-tenor_none bytes place e = sym (ap tenor_of (left_out_body bytes (68 ∷ 0 ∷ 0 ∷ []) e))
+  module _ (known : tag < 12) {n : ℕ} (wide : n ≡ width_of count tag) where
+    pub stored_without : leb (get_or places tag 0 + n) 20000 ≡ false → left_out ≡ stored bytes places count left_out tag
+    unfolding stored body_in
+    stored_without e = sym (taken _ _ (lt-ltb tag 12 known) ∙ left _ _ (rw wide at e))
 
-module _ (bytes : List ℕ) (place : ℕ) (some : place ≡ 0 → ⊥) (lies : (place ≡ 0 → ⊥) → Sized bytes place 3) where
-  pub tenor_inside : place < length bytes
-  tenor_inside = omega (arith, (lies some).inside)
+    pub stored_with : leb (get_or places tag 0 + n) 20000 ≡ true → take (get_or places tag 0 + n - get_or places tag 0) (drop (get_or places tag 0) bytes) ≡ stored bytes places count left_out tag
+    unfolding stored body_in
+    stored_with e =
+        let k : get_or places tag 0 + n - get_or places tag 0 ≡ n = omega arith in
+        rw (k, wide) (sym (taken _ _ (lt-ltb tag 12 known) ∙ taken _ _ (rw wide at e)))
 
-  pub tenor_behind : place + 1 + 2 ≤ length bytes
-  tenor_behind = omega (arith, (lies some).inside)
+-- ---- the whole request without headers
+module _ (bytes places : List ℕ) (count : ℕ) {l : List ℕ} where
+  pub read_short : length bytes < 20000 → Decodes (stored_in bytes places count (length l)) (Err refusal-is.Buffer) l l
+  unfolding stored_in
+  read_short h = refuses refusal-is.Buffer (fails 18 _ _ (lt-leb 20000 (length bytes) h))
 
-  pub tenor_some : {r : ℕ} {z : ℤ} {u : Unit} → Pair bytes (place + 1) r → SFits w32 z → z ≡ signed16 r → u ≡ unit_of (get_or bytes place 0) → record { length = to_z w32 (of_z w32 z); unit = u } ≡ tenor_of (body_at bytes (68 ∷ 0 ∷ 0 ∷ []) place)
-  unfolding tenor_of
-  tenor_some {r} {z} {u} p f e q =
-      let body : List ℕ = body_at bytes (68 ∷ 0 ∷ 0 ∷ []) place in
-      let a : get_or (body_at bytes (68 ∷ 0 ∷ 0 ∷ []) place) 0 0 ≡ get_or bytes place 0 = byte_there bytes some (lies some) (68 ∷ 0 ∷ 0 ∷ []) 0 (omega arith) ∙ ap (λ (k : ℕ). get_or bytes k 0) (add-zero place) in
-      let b : get_or (body_at bytes (68 ∷ 0 ∷ 0 ∷ []) place) 1 0 ≡ get_or bytes (place + 1) 0 = byte_there bytes some (lies some) (68 ∷ 0 ∷ 0 ∷ []) 1 (omega arith) in
-      let s : place + 2 ≡ place + 1 + 1 = omega arith in
-      let c : get_or (body_at bytes (68 ∷ 0 ∷ 0 ∷ []) place) 2 0 ≡ get_or bytes (place + 1 + 1) 0 = byte_there bytes some (lies some) (68 ∷ 0 ∷ 0 ∷ []) 2 (omega arith) ∙ ap (λ (k : ℕ). get_or bytes k 0) s in
-      let n : to_z w32 (of_z w32 z) ≡ z = to_z-of_z {w = w32} {z = z} f in
-      let m : r ≡ two_at bytes (place + 1) = p.same in
-      cc
+  pub read_stored : {r : Result Decoded Refusal} {l' : List ℕ} → 20000 ≤ length bytes → Decodes (asked_from (length l) (stored bytes places count)) r l l' → Decodes (stored_in bytes places count (length l)) r l l'
+  unfolding stored_in
+  read_stored h d = same_promise (holds 18 _ _ _ (le-leb 20000 (length bytes) h) refl) d
 
-pub ruleset tenors = (tenor_none, tenor_inside, tenor_behind, tenor_some, search_rules)
-
--- ---- how many closed dates
-pub count_none : (bytes : List ℕ) (place : ℕ) → place ≡ 0 → 0 ≡ length (body_at bytes [] place) / 4
-count_none bytes place e = sym (ap (λ (l : List ℕ). length l / 4) (left_out_body bytes [] e))
-
-module _ (bytes : List ℕ) (place : ℕ) (some : place ≡ 0 → ⊥) (lies : (place ≡ 0 → ⊥) → Lies bytes place 11) where
-  pub count_after : 2 ≤ place
-  count_after = (lies some).sized.after
-
-  pub count_inside : place - 2 + 2 ≤ length bytes
-  count_inside = omega (arith, (lies some).sized.inside, (lies some).sized.after)
-
-  pub count_some : {r : ℕ} → Pair bytes (place - 2) r → r / 4 ≡ length (body_at bytes [] place) / 4
-  count_some p = ap (λ (k : ℕ). k / 4) (p.same ∙ sym (long_there bytes some (lies some).sized []))
-
-pub ruleset counts = (count_none, count_after, count_inside, count_some, search_rules)
-
--- ---- the bodies at the places that are kept have the widths of their tags
-first_of : (a b : Bool) → a && b ≡ true → a ≡ true
-first_of true b e = refl
-first_of false b e = absurd (false≢true e)
-
-second_of : (a b : Bool) → a && b ≡ true → b ≡ true
-second_of true b e = e
-second_of false b e = absurd (false≢true e)
-
-date_wide : (s : List ℕ) → is_date s ≡ true → length s ≡ 4
-unfolding is_date
-date_wide s e = eqb-true (length s) 4 e
-
-tenor_wide : (s : List ℕ) → is_tenor s ≡ true → length s ≡ 3
-unfolding is_tenor
-tenor_wide s e = eqb-true (length s) 3 (first_of _ _ e)
-
-byte_wide : (limit : ℕ) (s : List ℕ) → is_below limit s ≡ true → length s ≡ 1
-unfolding is_below
-byte_wide limit s e = eqb-true (length s) 1 (first_of _ _ e)
-
-pub by_fours : (s : List ℕ) → are_dates s ≡ true → length s % 4 ≡ 0
-unfolding are_dates
-by_fours s e = eqb-true (length s % 4) 0 (second_of (leb (length s) 16384) (eqb (length s % 4) 0) e)
-
-module _ {bytes places : List ℕ} (k : PlacesKept bytes places) where
-  sized_by : (tag n : ℕ) → ((s : List ℕ) → body_ok tag s ≡ true → length s ≡ n) → (get_or places tag 0 ≡ 0 → ⊥) → Sized bytes (get_or places tag 0) n
-  sized_by tag n wide some =
-      let l = k.lies tag some in
-      let w : two_at bytes (get_or places tag 0 - 2) ≡ n = sym (length-take-le (two_at bytes (get_or places tag 0 - 2)) (drop (get_or places tag 0) bytes) (omega (arith, length-drop (get_or places tag 0) bytes, l.sized.inside))) ∙ wide _ l.ok in
-      record { after = l.sized.after; size = w; inside = omega (arith, w, l.sized.inside) }
-
-  pub kept_1 : (get_or places 1 0 ≡ 0 → ⊥) → Sized bytes (get_or places 1 0) 4
-  unfolding body_ok pick
-  kept_1 = sized_by 1 4 date_wide
-
-  pub kept_2 : (get_or places 2 0 ≡ 0 → ⊥) → Sized bytes (get_or places 2 0) 4
-  unfolding body_ok pick
-  kept_2 = sized_by 2 4 date_wide
-
-  pub kept_3 : (get_or places 3 0 ≡ 0 → ⊥) → Sized bytes (get_or places 3 0) 3
-  unfolding body_ok pick
-  kept_3 = sized_by 3 3 tenor_wide
-
-  pub kept_4 : (get_or places 4 0 ≡ 0 → ⊥) → Sized bytes (get_or places 4 0) 1
-  unfolding body_ok pick rules
-  kept_4 = sized_by 4 1 (byte_wide 10)
-
-  pub kept_5 : (get_or places 5 0 ≡ 0 → ⊥) → Sized bytes (get_or places 5 0) 1
-  unfolding body_ok pick conventions
-  kept_5 = sized_by 5 1 (byte_wide 5)
-
-  pub kept_6 : (get_or places 6 0 ≡ 0 → ⊥) → Sized bytes (get_or places 6 0) 1
-  unfolding body_ok pick conventions
-  kept_6 = sized_by 6 1 (byte_wide 5)
-
-  pub kept_7 : (get_or places 7 0 ≡ 0 → ⊥) → Sized bytes (get_or places 7 0) 1
-  unfolding body_ok pick
-  kept_7 = sized_by 7 1 (byte_wide 2)
-
-  pub kept_8 : (get_or places 8 0 ≡ 0 → ⊥) → Sized bytes (get_or places 8 0) 4
-  unfolding body_ok pick
-  kept_8 = sized_by 8 4 date_wide
-
-  pub kept_9 : (get_or places 9 0 ≡ 0 → ⊥) → Sized bytes (get_or places 9 0) 4
-  unfolding body_ok pick
-  kept_9 = sized_by 9 4 date_wide
-
-  pub kept_10 : (get_or places 10 0 ≡ 0 → ⊥) → Sized bytes (get_or places 10 0) 1
-  unfolding body_ok pick
-  kept_10 = sized_by 10 1 (byte_wide 128)
-
-pub ruleset kept = (kept_1, kept_2, kept_3, kept_4, kept_5, kept_6, kept_7, kept_8, kept_9, kept_10, search_rules)
-
--- ---- a request, field by field
-pub request_is : (body : List ℕ → ℕ → List ℕ) {effective termination first penultimate : Date} {tenor : Period} {rule : Rule} {convention terminal : Convention} {r c t m mask : ℕ}
-    → effective ≡ date_of (body [] 1) → termination ≡ date_of (body [] 2) → tenor ≡ tenor_of (body (68 ∷ 0 ∷ 0 ∷ []) 3)
-    → r ≡ byte_of (body (1 ∷ []) 4) → rule ≡ rule_of r → c ≡ byte_of (body (0 ∷ []) 5) → convention ≡ convention_of c
-    → t ≡ byte_of (body (0 ∷ []) 6) → terminal ≡ convention_of t → m ≡ byte_of (body (0 ∷ []) 7)
-    → first ≡ date_of (body [] 8) → penultimate ≡ date_of (body [] 9) → mask ≡ byte_of (body (0 ∷ []) 10)
-    → record { effective = effective; termination = termination; tenor = tenor; rule = rule; convention = convention; terminal = terminal; monthend = eqb m 1; first = first; penultimate = penultimate; mask = mask } ≡ request_from body
-unfolding request_from
-request_is body e1 e2 e3 b4 e4 b5 e5 b6 e6 b7 e8 e9 e10 =
-    λ i. record {
-      effective = e1 i;
-      termination = e2 i;
-      tenor = e3 i;
-      rule = (e4 ∙ ap rule_of b4) i;
-      convention = (e5 ∙ ap convention_of b5) i;
-      terminal = (e6 ∙ ap convention_of b6) i;
-      monthend = eqb (b7 i) 1;
-      first = e8 i;
-      penultimate = e9 i;
-      mask = e10 i;
-    }
+pub ruleset reads_in = (read_short, read_stored, rules)

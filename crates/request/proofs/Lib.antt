@@ -1,9 +1,7 @@
-pub mod BodyWays
 pub mod Signs
 pub mod StepWays
 pub mod FindWays
 pub mod AskWays
 pub mod WriteWays
 pub mod AnswerWays
-pub mod StoredWays
 pub mod PutWays

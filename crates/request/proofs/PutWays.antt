@@ -8,13 +8,17 @@ use native.Mathlib.Omega.{arith}
 use native.Mathlib.Nat.{add-zero, le_antisymm}
 use native.Mathlib.Numerals.{add-one}
 use borrow.Author.Rules.{rules}
-use borrow.Author.Tests.{le-leb, lt-leb, le-ltb, lt-ltb, leb-true, leb-false}
-use lib.Dec.{T, leb, ltb, ltb→lt}
+use borrow.Author.Tests.{le-leb, lt-leb, leb-true, leb-false}
+use lib.Dec.{leb}
 use lib.IntN.{ℤ, pos, negsuc, nat_abs}
 use lib.ListN.{length, get_or, take, drop, set}
 use lib.Seq.{sets, sets-eq, take-suc, take-length, length-take-le}
 use mir.Syntax.{w32}
 use mir.Val.{SFits, to_z, of_z}
+use Rattle.std.specs.Prelude.{Ok, Err}
+use Rattle.refusal.specs.declared.Refusal.{Refusal}
+use Rattle.refusal.specs.declared.Refusal.TheVariants as refusal-is
+use Rattle.refusal.specs.Refusals.{number_of}
 use Rattle.refusal.specs.Answer.{Answer, given, refused}
 use Rattle.refusal.specs.Laws.Answers.{fails, holds}
 use Rattle.period.specs.Period.{is_negative}
@@ -22,7 +26,6 @@ use Rattle.period.specs.Laws.Signed.{same32}
 use Rattle.period.specs.declared.Period.{Period}
 use Rattle.steps.specs.declared.Request.{Request}
 use Rattle.steps.specs.Build.{over}
-use Rattle.request.specs.declared.Encoded.TheVariants as encoded-is
 use Rattle.request.specs.Encode.{bytes4, bits16, letter_of, tenor_body, head_of, spelt, dates_in, fields_in, written, bytes_of, dates_part, choices_part, anchors_part, closed_part, fits16, sayable, laid, encoded, encodes, bytes_after, Encodes}
 use Rattle.request.specs.Inner.Places.{Bits}
 use Rattle.request.specs.Laws.Round.{dates_long, bytes_long}
@@ -69,12 +72,6 @@ module _ (z : ℤ) (held : SFits w32 z) {size : ℕ} {negative : Bool} (is : siz
   size_is : size ≡ nat_abs z
   size_is = is ∙ ap nat_abs (same32 z held)
 
-  pub sixteen_below : negative ≡ true → leb size 32768 ≡ fits16 z
-  sixteen_below t = fits_below z size size_is (sym t ∙ tells ∙ ap is_negative (same32 z held))
-
-  pub sixteen_above : negative ≡ false → leb size 32767 ≡ fits16 z
-  sixteen_above t = fits_above z size size_is (sym t ∙ tells ∙ ap is_negative (same32 z held))
-
   pub bits_room : negative ≡ true → fits16 z ≡ true → size ≤ 65536
   bits_room t f = (bits_below z size size_is (sym t ∙ tells ∙ ap is_negative (same32 z held)) f).0
 
@@ -84,27 +81,7 @@ module _ (z : ℤ) (held : SFits w32 z) {size : ℕ} {negative : Bool} (is : siz
   pub bits_positive : negative ≡ false → fits16 z ≡ true → Bits z size
   bits_positive t f = bits_above z size size_is (sym t ∙ tells ∙ ap is_negative (same32 z held)) f
 
--- ---- what can be said
-module _ (q : Request) (count : ℕ) {r : Bool} (held : SFits w32 q.tenor.length) (tells : r ≡ fits16 (to_z w32 (of_z w32 q.tenor.length))) where
-  is : r ≡ fits16 q.tenor.length
-  is = tells ∙ ap fits16 (same32 q.tenor.length held)
-
-  pub said : r ≡ true → q.mask < 128 → leb count 4096 ≡ sayable q count
-  unfolding sayable
-  said t h = sym (ap (λ (b : Bool). b && (ltb q.mask 128 && leb count 4096)) (sym is ∙ t) ∙ ap (λ (b : Bool). b && leb count 4096) (lt-ltb q.mask 128 h))
-
-  pub unsaid_mask : r ≡ true → 128 ≤ q.mask → false ≡ sayable q count
-  unfolding sayable
-  unsaid_mask t h = sym (ap (λ (b : Bool). b && (ltb q.mask 128 && leb count 4096)) (sym is ∙ t) ∙ ap (λ (b : Bool). b && leb count 4096) (le-ltb q.mask 128 h))
-
-  pub unsaid_length : r ≡ false → false ≡ sayable q count
-  unfolding sayable
-  unsaid_length t = sym (ap (λ (b : Bool). b && (ltb q.mask 128 && leb count 4096)) (sym is ∙ t))
-
 -- ---- stores in a row
-pub roomy : (k m at n : ℕ) → at + m ≤ n → T (ltb k m) → at + k < n
-roomy k m at n h t = omega (arith, h, ltb→lt k m t)
-
 pub one_store : (l : List ℕ) (at a : ℕ) → set l at a ≡ laid l at (a ∷ [])
 unfolding laid
 one_store l at a = refl
@@ -162,14 +139,14 @@ module _ (q : Request) (closed l l₁ l₂ l₃ l₄ : List ℕ) (e : l₁ ≡ l
   request_laid can room = laid_over (bytes_of q closed) l l₄ whole (omega (arith, bytes_long q closed can, room))
 
 -- ---- the answer
-refuses : {o : Answer (List ℕ)} (n : ℕ) {l : List ℕ} → refused n ≡ o → Encodes o (encoded-is.Refused n) l l
+refuses : {o : Answer (List ℕ)} (r : Refusal) {l : List ℕ} → refused (number_of r) ≡ o → Encodes o (Err r) l l
 unfolding encodes bytes_after
-refuses n {l} e = record { answer = ap encodes e; list_after_lem = ap (λ (x : Answer (List ℕ)). bytes_after x l) e }
+refuses r {l} e = record { answer = ap encodes e; bytes = ap (λ (x : Answer (List ℕ)). bytes_after x l) e }
 
 module _ (q : Request) (closed l : List ℕ) {r : Bool} (is : r ≡ sayable q (length closed)) where
-  pub encode_unsaid : r ≡ false → Encodes (encoded q closed (length l)) (encoded-is.Refused 17) l l
+  pub encode_unsaid : r ≡ false → Encodes (encoded q closed (length l)) (Err refusal-is.Request) l l
   unfolding encoded
-  encode_unsaid t = refuses 17 (fails 17 _ _ (sym is ∙ t))
+  encode_unsaid t = refuses refusal-is.Request (fails 17 _ _ (sym is ∙ t))
 
   module _ (t : r ≡ true) where
     pub encode_can : sayable q (length closed) ≡ true
@@ -178,15 +155,15 @@ module _ (q : Request) (closed l : List ℕ) {r : Bool} (is : r ≡ sayable q (l
     long : length (bytes_of q closed) ≡ 60 + length closed * 4
     long = bytes_long q closed encode_can
 
-    pub encode_room : length l < 60 + length closed * 4 → Encodes (encoded q closed (length l)) (encoded-is.Refused 14) l l
+    pub encode_room : length l < 60 + length closed * 4 → Encodes (encoded q closed (length l)) (Err refusal-is.Room) l l
     unfolding encoded
-    encode_room h = refuses 14 (holds 17 _ _ _ encode_can (fails 14 _ _ (lt-leb (length (bytes_of q closed)) (length l) (omega (arith, long, h)))))
+    encode_room h = refuses refusal-is.Room (holds 17 _ _ _ encode_can (fails 14 _ _ (lt-leb (length (bytes_of q closed)) (length l) (omega (arith, long, h)))))
 
-    pub encode_given : 60 + length closed * 4 ≤ length l → {l' : List ℕ} → l' ≡ over (bytes_of q closed) l → Encodes (encoded q closed (length l)) (encoded-is.Length (60 + length closed * 4)) l l'
+    pub encode_given : 60 + length closed * 4 ≤ length l → {l' : List ℕ} → l' ≡ over (bytes_of q closed) l → Encodes (encoded q closed (length l)) (Ok (60 + length closed * 4)) l l'
     unfolding encoded encodes bytes_after
     encode_given h {l'} e =
         let o : given (bytes_of q closed) ≡ encoded q closed (length l) = holds 17 _ _ _ encode_can (holds 14 _ _ _ (le-leb (length (bytes_of q closed)) (length l) (omega (arith, long, h))) refl) in
-        record { answer = ap encoded-is.Length (sym long) ∙ ap encodes o; list_after_lem = e ∙ ap (λ (x : Answer (List ℕ)). bytes_after x l) o }
+        record { answer = ap given (sym long) ∙ ap encodes o; bytes = e ∙ ap (λ (x : Answer (List ℕ)). bytes_after x l) o }
 
 pub ruleset encoding = (encode_unsaid, encode_can, encode_room, encode_given, rules)
 
@@ -233,10 +210,6 @@ module _ {l₀ closed l : List ℕ} {at j : ℕ} (w : Worded l₀ at closed l j)
       let e : j ≡ length closed = le_antisymm w.within h in
       w.same ∙ ap (λ (k : ℕ). laid l₀ at (dates_in (take k closed))) e ∙ ap (λ (x : List ℕ). laid l₀ at (dates_in x)) (take-length closed)
 
-pub ruleset rooms = (roomy, rules)
-
 pub ruleset words = (worded_start, worded_long, worded_room, worded_more, worded_end, rules)
 
-pub ruleset sixteen = (sixteen_below, sixteen_above, bits_room, bits_negative, bits_positive, rules)
-
-pub ruleset says = (said, unsaid_mask, unsaid_length, rules)
+pub ruleset sixteen = (bits_room, bits_negative, bits_positive, rules)

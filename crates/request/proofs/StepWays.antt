@@ -15,14 +15,25 @@ use Rattle.refusal.specs.Answer.{Answer, given, refused, need, then}
 use Rattle.refusal.specs.Laws.Answers.{fails, holds, then_given, then_refused}
 use Rattle.request.specs.declared.fields.Step.TheVariants.{Broken, End, Next}
 use Rattle.request.specs.Format.{body_ok, Field, Cut, size_in, cut_at, cut_of, last_tag, is_end, on_field, on_cut}
-use Rattle.request.proofs.BodyWays.{body_none}
+use Rattle.request.specs.Laws.Picks.{left}
 use Rattle.request.specs.Inner.Places.{two_at, Pair, stepped, IsFramed, Steps}
 
 -- no tag from 12 on has a body
 none_from : (tag : ℕ) (s : List ℕ) → 12 ≤ tag → false ≡ body_ok tag s
+unfolding body_ok
 none_from tag s h =
-    body_none s (λ e. omega (arith, h, e)) (λ e. omega (arith, h, e)) (λ e. omega (arith, h, e)) (λ e. omega (arith, h, e)) (λ e. omega (arith, h, e)) (λ e. omega (arith, h, e))
-    (λ e. omega (arith, h, e)) (λ e. omega (arith, h, e)) (λ e. omega (arith, h, e)) (λ e. omega (arith, h, e)) (λ e. omega (arith, h, e))
+    let no : (k : ℕ) → k < 12 → eqb tag k ≡ false = λ k l. ne_eqb tag k (λ e. omega (arith, h, l, e)) in
+    sym (left _ _ (no 1 (omega arith))
+    ∙ left _ _ (no 2 (omega arith))
+    ∙ left _ _ (no 3 (omega arith))
+    ∙ left _ _ (no 4 (omega arith))
+    ∙ left _ _ (no 5 (omega arith))
+    ∙ left _ _ (no 6 (omega arith))
+    ∙ left _ _ (no 7 (omega arith))
+    ∙ left _ _ (no 8 (omega arith))
+    ∙ left _ _ (no 9 (omega arith))
+    ∙ left _ _ (no 10 (omega arith))
+    ∙ left _ _ (no 11 (omega arith)))
 
 few_tags : (tag : ℕ) (s : List ℕ) → body_ok tag s ≡ true → tag < 12
 few_tags tag s e = by_test (ltb tag 12) refl
@@ -94,21 +105,21 @@ module _ (bytes : List ℕ) (at : ℕ) where
           sym (holds 17 _ _ _ long_here (holds 17 _ _ _ (le-leb (3 + size_in here) (length here) (omega (arith, length-drop at bytes, size, inside, long))) refl))
           ∙ ap given cut_is
 
-      on_cut_lem : (fs : List Field) (on : List Field → List ℕ → Answer (List Field)) → then (cut_of here) (on_cut fs on) ≡ on_cut fs on cut
-      on_cut_lem fs on = sym (then_given (cut_of here) cut (on_cut fs on) _ found refl)
+      cut_here : (fs : List Field) (on : List Field → List ℕ → Answer (List Field)) → then (cut_of here) (on_cut fs on) ≡ on_cut fs on cut
+      cut_here fs on = sym (then_given (cut_of here) cut (on_cut fs on) _ found refl)
 
       pub step_low : {last : ℕ} → tag ≤ last → Steps bytes at last Broken
       unfolding on_cut stepped IsFramed
       step_low h =
           record {
-            same = λ fs on e. on_cut_lem fs on ∙ sym (fails 17 _ _ (le-ltb (last_tag fs) tag (omega (arith, e, h))));
+            same = λ fs on e. cut_here fs on ∙ sym (fails 17 _ _ (le-ltb (last_tag fs) tag (omega (arith, e, h))));
             sound = tt;
           }
 
       module _ {last : ℕ} (up : last < tag) where
         past : (fs : List Field) (on : List Field → List ℕ → Answer (List Field)) → last_tag fs ≡ last → then (cut_of here) (on_cut fs on) ≡ on_field (eqb tag 255) fs cut on
         unfolding on_cut
-        past fs on e = on_cut_lem fs on ∙ sym (holds 17 _ _ _ (lt-ltb (last_tag fs) tag (omega (arith, e, up))) refl)
+        past fs on e = cut_here fs on ∙ sym (holds 17 _ _ _ (lt-ltb (last_tag fs) tag (omega (arith, e, up))) refl)
 
         body_long : length body ≡ n
         body_long = length-take-le n (drop (at + 3) bytes) (omega (arith, length-drop (at + 3) bytes, inside))
@@ -117,9 +128,9 @@ module _ (bytes : List ℕ) (at : ℕ) where
         rest_long = length-drop (at + 3 + n) bytes
 
         module _ (ff : tag ≡ 255) where
-          at_end_lem : (fs : List Field) (on : List Field → List ℕ → Answer (List Field)) → last_tag fs ≡ last → then (cut_of here) (on_cut fs on) ≡ need 17 (is_end cut) (given fs)
+          ends_here : (fs : List Field) (on : List Field → List ℕ → Answer (List Field)) → last_tag fs ≡ last → then (cut_of here) (on_cut fs on) ≡ need 17 (is_end cut) (given fs)
           unfolding on_field
-          at_end_lem fs on e = past fs on e ∙ ap (λ (b : Bool). on_field b fs cut on) (eq-eqb tag 255 ff)
+          ends_here fs on e = past fs on e ∙ ap (λ (b : Bool). on_field b fs cut on) (eq-eqb tag 255 ff)
 
           pub step_end : length bytes - at ≡ 3 → Steps bytes at last End
           unfolding stepped IsFramed is_end
@@ -127,13 +138,13 @@ module _ (bytes : List ℕ) (at : ℕ) where
               let b : length body ≡ 0 = omega (arith, body_long, h, inside) in
               let r : length rest ≡ 0 = omega (arith, rest_long, h, inside) in
               let t : is_end cut ≡ true = rw (b, r) refl in
-              record { same = λ fs on e. at_end_lem fs on e ∙ sym (holds 17 _ _ _ t refl); sound = tt }
+              record { same = λ fs on e. ends_here fs on e ∙ sym (holds 17 _ _ _ t refl); sound = tt }
 
           pub step_more : (length bytes - at ≡ 3 → ⊥) → Steps bytes at last Broken
           unfolding stepped IsFramed is_end
           step_more h =
               let t : is_end cut ≡ false = not_both (length body) (length rest) (λ z. h (omega (arith, z, body_long, rest_long, inside, long))) in
-              record { same = λ fs on e. at_end_lem fs on e ∙ sym (fails 17 _ _ t); sound = tt }
+              record { same = λ fs on e. ends_here fs on e ∙ sym (fails 17 _ _ t); sound = tt }
 
         module _ (apart : tag ≡ 255 → ⊥) {r : Bool} (is : r ≡ body_ok tag (take (at + 3 + n - (at + 3)) (drop (at + 3) bytes))) where
           is_here : r ≡ body_ok tag body

@@ -1,9 +1,10 @@
 -- The bytes of a request, every field written (document 01, "Request bytes and the program"), and what `encode` promises.
 -- Assumes nothing.
-use Rattle.std.specs.Prelude.{ℕ, ◌-◌, ◌/◌, ◌%◌, ◌≡◌, Bool, true, false, ◌&&◌, List, [], ◌∷◌, ◌++◌, leb, ltb, ℤ, pos, negsuc, length}
+use Rattle.std.specs.Prelude.{ℕ, ◌-◌, ◌/◌, ◌%◌, ◌≡◌, Bool, true, false, ◌&&◌, List, [], ◌∷◌, ◌++◌, leb, ltb, ℤ, pos, negsuc, length, Result}
 use Rattle.std.proofs.lemmas.List.Edits.{sets}
 use Rattle.std.specs.Int.Signed.{le_z}
-use Rattle.refusal.specs.Answer.{Answer, given, refused, need, ROOM, REQUEST}
+use Rattle.refusal.specs.declared.Refusal.{Refusal}
+use Rattle.refusal.specs.Answer.{Answer, given, refused, answered, need, ROOM, REQUEST}
 use Rattle.period.specs.declared.Unit.{Unit}
 use Rattle.period.specs.declared.Unit.TheVariants.{Days, Weeks, Months, Years}
 use Rattle.period.specs.declared.Period.{Period}
@@ -11,8 +12,6 @@ use Rattle.calendar.specs.Adjust.{convention_number}
 use Rattle.steps.specs.declared.Request.{Request}
 use Rattle.steps.specs.Rules.{rule_number}
 use Rattle.steps.specs.Build.{over}
-use Rattle.request.specs.declared.Encoded.{Encoded}
-use Rattle.request.specs.declared.Encoded.TheVariants as encoded-is
 use Rattle.request.specs.Tags.{EFFECTIVE, TERMINATION, TENOR, RULE, CONVENTION, TERMINAL, MONTHEND, FIRST, PENULTIMATE, MASK, CLOSED, END}
 use Rattle.request.specs.Format.{Field}
 
@@ -51,15 +50,15 @@ field tag body = record { tag = tag; body = body }
 
 unfoldable pub fields_in : Request → List ℕ → List Field
 fields_in q closed =
-    field EFFECTIVE (bytes4 q.effective.day)
-    ∷ field TERMINATION (bytes4 q.termination.day)
+    field EFFECTIVE (bytes4 q.effective)
+    ∷ field TERMINATION (bytes4 q.termination)
     ∷ field TENOR (tenor_body q.tenor)
     ∷ field RULE (rule_number q.rule ∷ [])
     ∷ field CONVENTION (convention_number q.convention ∷ [])
     ∷ field TERMINAL (convention_number q.terminal ∷ [])
     ∷ field MONTHEND (bit q.monthend ∷ [])
-    ∷ field FIRST (bytes4 q.first.day)
-    ∷ field PENULTIMATE (bytes4 q.penultimate.day)
+    ∷ field FIRST (bytes4 q.first)
+    ∷ field PENULTIMATE (bytes4 q.penultimate)
     ∷ field MASK (q.mask ∷ [])
     ∷ field CLOSED (dates_in closed)
     ∷ []
@@ -83,13 +82,13 @@ laid old at s = sets old at s
 
 -- the same bytes in four parts: dates and tenor, rule to end of month, anchors and mask, closed dates and FF
 abbrev pub dates_part : Request → List ℕ
-dates_part q = spelt EFFECTIVE (bytes4 q.effective.day) ++ (spelt TERMINATION (bytes4 q.termination.day) ++ spelt TENOR (tenor_body q.tenor))
+dates_part q = spelt EFFECTIVE (bytes4 q.effective) ++ (spelt TERMINATION (bytes4 q.termination) ++ spelt TENOR (tenor_body q.tenor))
 
 abbrev pub choices_part : Request → List ℕ
 choices_part q = spelt RULE (rule_number q.rule ∷ []) ++ (spelt CONVENTION (convention_number q.convention ∷ []) ++ (spelt TERMINAL (convention_number q.terminal ∷ []) ++ spelt MONTHEND (bit q.monthend ∷ [])))
 
 abbrev pub anchors_part : Request → List ℕ
-anchors_part q = spelt FIRST (bytes4 q.first.day) ++ (spelt PENULTIMATE (bytes4 q.penultimate.day) ++ spelt MASK (q.mask ∷ []))
+anchors_part q = spelt FIRST (bytes4 q.first) ++ (spelt PENULTIMATE (bytes4 q.penultimate) ++ spelt MASK (q.mask ∷ []))
 
 abbrev pub closed_part : List ℕ → List ℕ
 closed_part closed = spelt CLOSED (dates_in closed) ++ spelt END []
@@ -107,14 +106,14 @@ encoded q closed room =
     need REQUEST (sayable q (length closed)) (need ROOM (leb (length (bytes_of q closed)) room) (given (bytes_of q closed)))
 
 -- ---- what is answered, and what the lent list then holds
-unfoldable pub encodes : Answer (List ℕ) → Encoded
-encodes (given s) = encoded-is.Length (length s)
-encodes (refused n) = encoded-is.Refused n
+unfoldable pub encodes : Answer (List ℕ) → Answer ℕ
+encodes (given s) = given (length s)
+encodes (refused n) = refused n
 
 unfoldable pub bytes_after : Answer (List ℕ) → List ℕ → List ℕ
 bytes_after (given s) old = over s old
 bytes_after (refused n) old = old
 
-pub record Encodes (o : Answer (List ℕ)) (r : Encoded) (list list' : List ℕ) : Type 0 where
-  pub answer : r ≡ encodes o
-  pub list_after_lem : list' ≡ bytes_after o list
+pub record Encodes (o : Answer (List ℕ)) (r : Result ℕ Refusal) (list list' : List ℕ) : Type 0 where
+  pub answer : answered r ≡ encodes o
+  pub bytes : list' ≡ bytes_after o list

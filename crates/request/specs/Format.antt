@@ -6,7 +6,6 @@ use Rattle.refusal.specs.Answer.{Answer, given, refused, need, then, ROOM, REQUE
 use Rattle.period.specs.declared.Unit.{Unit}
 use Rattle.period.specs.declared.Unit.TheVariants.{Days, Weeks, Months, Years}
 use Rattle.period.specs.declared.Period.{Period}
-use Rattle.date.specs.declared.Date.{Date}
 use Rattle.calendar.specs.declared.Convention.{Convention}
 use Rattle.calendar.specs.declared.Convention.TheVariants.{ModifiedPreceding}
 use Rattle.calendar.specs.Adjust.{conventions}
@@ -107,8 +106,8 @@ body_or [] left_out tag = left_out
 body_or (f ∷ fs) left_out tag = pick (eqb f.tag tag) f.body (body_or fs left_out tag)
 
 -- ---- what a body says
-unfoldable pub date_of : List ℕ → Date
-date_of s = record { day = four (get_or s 0 0) (get_or s 1 0) (get_or s 2 0) (get_or s 3 0) }
+unfoldable pub date_of : List ℕ → ℕ
+date_of s = four (get_or s 0 0) (get_or s 1 0) (get_or s 2 0) (get_or s 3 0)
 
 abbrev pub byte_of : List ℕ → ℕ
 byte_of s = get_or s 0 0

@@ -1,99 +1,102 @@
-// What the fields ask for: a body's place is 0 where its field was left out.
-ghost use Rattle.std.specs.Prelude.{◌≡◌, [], ◌∷◌, ◌+◌, ◌*◌, ◌/◌, ◌≤◌, length};
+// What the bodies of a request's fields ask for.
+ghost use Rattle.std.specs.Prelude.{◌≡◌, ℕ, List, ◌/◌, ◌≤◌, length};
 ghost use Rattle.steps.specs.Build.{over};
-ghost use Rattle.request.specs.Tags.{CLOSED};
-ghost use Rattle.request.specs.Format.{byte_of, date_of, tenor_of, request_from};
-ghost use Rattle.request.specs.Inner.Places.{body_at, dates_at, Sized, Lies, PlacesKept, placed};
+ghost use Rattle.request.specs.Format.{is_date, byte_of, date_of, tenor_of, request_from, dates_of, asked_from};
+ghost use Rattle.request.specs.Decode.{Decodes};
 
-use crate::{bodies, numbers, places};
+use crate::{Decoded, bodies, numbers, tags};
 use date::Date;
-use period::{Period, Unit};
+use period::Period;
+use refusal::Refusal;
 use steps::Request;
 
-fn date_at(bytes: &[u8], place: usize) -> Date
-    requires { (place ≡ 0 → ⊥) → Sized bytes.now place 4 }
-    ensures { result ≡ date_of (body_at bytes.now [] place) }
+// Where the bodies are: that of each tag, or what stands for it where the field was left out.
+pub(crate) trait Bodies {
+    ghost body_of: { Self → List ℕ → ℕ → List ℕ };
+
+    ghost sound: { Self → Type 0 };
+
+    fn body<'a>(&'a self, left_out: &'a [u8], tag: u8) -> &'a [u8]
+        requires { sound self.now }
+        ensures { result.now ≡ body_of self.now left_out.now tag };
+}
+
+#[tactic(auto, unfolding(crate::specs::Format::date_of))]
+fn date_of(body: &[u8]) -> Date
+    ensures { result ≡ date_of body.now }
 {
-    if place == 0 {
-        return Date { day: 0 };
-    }
     Date {
-        day: numbers::word_at(bytes, place),
+        day: numbers::word_in(body),
     }
 }
 
-fn byte_at(bytes: &[u8], place: usize, absent: u8) -> u8
-    requires { (place ≡ 0 → ⊥) → Sized bytes.now place 1 }
-    ensures { result ≡ byte_of (body_at bytes.now (absent ∷ []) place) }
+fn byte_of(body: &[u8]) -> u8
+    ensures { result ≡ byte_of body.now }
 {
-    if place == 0 {
-        return absent;
-    }
-    bytes[place]
+    body.first().copied().unwrap_or(0)
 }
 
-fn tenor_at(bytes: &[u8], place: usize) -> Period
-    requires { (place ≡ 0 → ⊥) → Sized bytes.now place 3 }
-    ensures { result ≡ tenor_of (body_at bytes.now (68 ∷ 0 ∷ 0 ∷ []) place) }
+fn tenor_of(body: &[u8]) -> Period
+    ensures { result ≡ tenor_of body.now }
 {
-    if place == 0 {
-        return Period {
-            length: 0,
-            unit: Unit::Days,
-        };
+    Period {
+        length: numbers::signed(numbers::pair_in(body)),
+        unit: bodies::unit_of(byte_of(body)),
     }
-    let length = numbers::signed(numbers::pair_at(bytes, place + 1));
-    let unit = bodies::unit_of(bytes[place]);
-    Period { length, unit }
 }
 
-pub(crate) fn request_at(bytes: &[u8], places: &[usize]) -> Request
-    requires { PlacesKept bytes.now places.now }
-    ensures { result ≡ request_from (placed bytes.now places.now) }
+#[tactic(auto, unfolding(crate::specs::Format::request_from))]
+fn request_from<B: Bodies>(fields: &B) -> Request
+    requires { B.sound fields.now }
+    ensures { result ≡ request_from (B.body_of fields.now) }
 {
-    let effective = date_at(bytes, places[places::EFFECTIVE]);
-    let termination = date_at(bytes, places[places::TERMINATION]);
-    let tenor = tenor_at(bytes, places[places::TENOR]);
-    let rule = bodies::rule_of(byte_at(bytes, places[places::RULE], 1));
-    let convention = bodies::convention_of(byte_at(bytes, places[places::CONVENTION], 0));
-    let terminal = bodies::convention_of(byte_at(bytes, places[places::TERMINAL], 0));
-    let monthend = byte_at(bytes, places[places::MONTHEND], 0) == 1;
-    let first = date_at(bytes, places[places::FIRST]);
-    let penultimate = date_at(bytes, places[places::PENULTIMATE]);
-    let mask = byte_at(bytes, places[places::MASK], 0);
     Request {
-        effective,
-        termination,
-        tenor,
-        rule,
-        convention,
-        terminal,
-        monthend,
-        first,
-        penultimate,
-        mask,
+        effective: date_of(fields.body(b"", tags::EFFECTIVE)),
+        termination: date_of(fields.body(b"", tags::TERMINATION)),
+        tenor: tenor_of(fields.body(b"D\0\0", tags::TENOR)),
+        rule: bodies::rule_of(byte_of(fields.body(b"\x01", tags::RULE))),
+        convention: bodies::convention_of(byte_of(fields.body(b"\0", tags::CONVENTION))),
+        terminal: bodies::convention_of(byte_of(fields.body(b"\0", tags::TERMINAL))),
+        monthend: byte_of(fields.body(b"\0", tags::MONTHEND)) == 1,
+        first: date_of(fields.body(b"", tags::FIRST)),
+        penultimate: date_of(fields.body(b"", tags::PENULTIMATE)),
+        mask: byte_of(fields.body(b"\0", tags::MASK)),
     }
 }
 
-pub(crate) fn closed_count(bytes: &[u8], place: usize) -> usize
-    requires { (place ≡ 0 → ⊥) → Lies bytes.now place CLOSED }
-    ensures { result ≡ length (body_at bytes.now [] place) / 4 }
+// Writes the dates of a body over the start of the list.
+fn write_closed(body: &[u8], closed: &mut [u32])
+    requires { length body.now / 4 ≤ length closed.old }
+    ensures { closed.new ≡ over (dates_of (length body.now / 4) body.now) closed.old }
 {
-    if place == 0 {
-        return 0;
+    for j in 0..body.len() / 4 {
+        closed[j] = numbers::word_at(body, j * 4);
     }
-    numbers::pair_at(bytes, place - 2) as usize / 4
 }
 
-// Writes the dates that start at a place over the start of the list.
-pub(crate) fn write_closed(bytes: &[u8], from: usize, count: usize, closed: &mut [u32])
-    requires dates_in_bytes { from + count * 4 ≤ length bytes.now }
-    requires dates_in_list { count ≤ length closed.old }
-    ensures { closed.new ≡ over (dates_at bytes.now from count) closed.old }
+#[tactic(auto, unfolding(crate::specs::Format::is_date))]
+fn is_date(body: &[u8]) -> bool
+    ensures { result ≡ is_date body.now }
 {
-    let mut j = 0;
-    while j < count {
-        closed[j] = numbers::word_at(bytes, from + j * 4);
-        j += 1;
+    body.len() == 4
+}
+
+// The request, with its closed dates written over the start of the list.
+pub(crate) fn asked_from<B: Bodies>(fields: &B, list: &mut [u32]) -> Result<Decoded, Refusal>
+    requires { B.sound fields.now }
+    ensures { Decodes (asked_from (length list.old) (B.body_of fields.now)) result list.old list.new }
+{
+    if !is_date(fields.body(b"", tags::EFFECTIVE))
+        || !is_date(fields.body(b"", tags::TERMINATION))
+    {
+        return Err(Refusal::Request);
     }
+    let dates = fields.body(b"", tags::CLOSED);
+    let closed = dates.len() / 4;
+    if list.len() < closed {
+        return Err(Refusal::Room);
+    }
+    write_closed(dates, list);
+    let request = request_from(fields);
+    Ok(Decoded { request, closed })
 }

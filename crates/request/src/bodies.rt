@@ -7,37 +7,30 @@ use calendar::Convention;
 use period::Unit;
 use steps::Rule;
 
-fn is_letter(b: u8) -> bool
+// Whether a unit has the letter.
+#[tactic(auto, unfolding(crate::specs::Format::is_letter, crate::specs::Format::pick))]
+pub fn is_letter(b: u8) -> bool
     ensures { result ≡ is_letter b }
 {
-    match b {
-        b'D' => true,
-        b'W' => true,
-        b'M' => true,
-        b'Y' => true,
-        _ => false,
-    }
+    matches!(b, b'D' | b'W' | b'M' | b'Y')
 }
 
+#[tactic(auto, unfolding(crate::specs::Format::is_tenor))]
 fn is_tenor(body: &[u8]) -> bool
     ensures { result ≡ is_tenor body.now }
 {
-    if body.len() == 3 {
-        return is_letter(body[0]);
-    }
-    false
+    body.len() == 3 && is_letter(body[0])
 }
 
+#[tactic(auto, unfolding(crate::specs::Format::is_below))]
 fn is_below(limit: u8, body: &[u8]) -> bool
     ensures { result ≡ is_below limit body.now }
 {
-    if body.len() == 1 {
-        return body[0] < limit;
-    }
-    false
+    body.len() == 1 && body[0] < limit
 }
 
 // Whether the tag has a field, and the body is one that it may have.
+#[tactic(auto, unfolding(crate::specs::Format::body_ok, crate::specs::Format::pick, crate::specs::Format::is_date, crate::specs::Format::are_dates, steps::specs::Rules::rules, calendar::specs::Adjust::conventions))]
 pub(crate) fn body_ok(tag: u8, body: &[u8]) -> bool
     ensures { result ≡ body_ok tag body.now }
 {
@@ -57,6 +50,7 @@ pub(crate) fn body_ok(tag: u8, body: &[u8]) -> bool
     }
 }
 
+#[tactic(auto, unfolding(crate::specs::Format::unit_of, crate::specs::Format::pick))]
 pub(crate) fn unit_of(b: u8) -> Unit
     ensures { result ≡ unit_of b }
 {
@@ -68,31 +62,43 @@ pub(crate) fn unit_of(b: u8) -> Unit
     }
 }
 
+// Document 01's rules, in number order. A byte that was let by stands in the list, so that what stands for others, as in specs/Format, is no
+// refusal of `Rule::try_from`.
+const RULES: [Rule; 10] = [
+    Rule::Zero,
+    Rule::Backward,
+    Rule::Forward,
+    Rule::Twentieth,
+    Rule::TwentiethIMM,
+    Rule::ThirdWednesday,
+    Rule::ThirdWednesdayInclusive,
+    Rule::OldCDS,
+    Rule::CDS,
+    Rule::CDS2015,
+];
+
+#[tactic(auto, unfolding(crate::specs::Format::rule_of, steps::specs::Rules::rules))]
 pub(crate) fn rule_of(b: u8) -> Rule
     ensures { result ≡ rule_of b }
 {
-    match b {
-        0 => Rule::Zero,
-        1 => Rule::Backward,
-        2 => Rule::Forward,
-        3 => Rule::Twentieth,
-        4 => Rule::TwentiethIMM,
-        5 => Rule::ThirdWednesday,
-        6 => Rule::ThirdWednesdayInclusive,
-        7 => Rule::OldCDS,
-        8 => Rule::CDS,
-        _ => Rule::CDS2015,
-    }
+    RULES.get(b as usize).copied().unwrap_or(Rule::CDS2015)
 }
 
+// Document 01's conventions, in number order.
+const CONVENTIONS: [Convention; 5] = [
+    Convention::Unadjusted,
+    Convention::Following,
+    Convention::ModifiedFollowing,
+    Convention::Preceding,
+    Convention::ModifiedPreceding,
+];
+
+#[tactic(auto, unfolding(crate::specs::Format::convention_of, calendar::specs::Adjust::conventions))]
 pub(crate) fn convention_of(b: u8) -> Convention
     ensures { result ≡ convention_of b }
 {
-    match b {
-        0 => Convention::Unadjusted,
-        1 => Convention::Following,
-        2 => Convention::ModifiedFollowing,
-        3 => Convention::Preceding,
-        _ => Convention::ModifiedPreceding,
-    }
+    CONVENTIONS
+        .get(b as usize)
+        .copied()
+        .unwrap_or(Convention::ModifiedPreceding)
 }

@@ -4,7 +4,8 @@ ghost use Rattle.request.specs.Inner.Places.{Steps, Blank, ReadsAs};
 
 use crate::{bodies, numbers, tags};
 
-// What stands next: a field with its tag and the length of its body, FF at the very end, or neither.
+// What stands next: a field with its tag and the length of its body, FF at the very end, or neither. An enum of its own: an Option in an
+// Option says the three no more plainly.
 #[derive(Drop)]
 pub(crate) enum Step {
     Broken,

@@ -2,21 +2,21 @@
 #![tactic(auto)]
 
 ghost use Rattle.std.specs.Prelude.{length};
-ghost use Rattle.request.specs.Format.{asked_from, decoded};
+ghost use Rattle.request.specs.Format.{decoded};
 ghost use Rattle.request.specs.Inner.Places.{PlacesKept, placed, Blank};
 ghost use Rattle.request.specs.Decode.{Decodes};
 ghost use Rattle.request.specs.Encode.{Encodes, encoded};
 
+use asking::{Bodies, asked_from};
+use refusal::Refusal;
 use steps::Request;
 
 // The tags of the fields.
 mod tags;
-// The list of places, by the fields' tags.
-mod places;
 // Numbers in the bytes, high byte first.
 mod numbers;
 // What a field's body may be.
-mod bodies;
+pub mod bodies;
 // The fields in front of FF.
 mod fields;
 // What the fields ask for.
@@ -26,76 +26,70 @@ pub mod stored;
 // The fields written.
 mod writing;
 
-// How many closed dates stand in the lent list; or the refusal.
+// What bytes ask for: the request, and how many closed dates stand in the lent list.
 #[derive(Clone, Copy)]
-pub enum Decoded {
-    Asked { request: Request, closed: usize },
-    Refused(u8),
+pub struct Decoded {
+    pub request: Request,
+    pub closed: usize,
 }
 
-// How many bytes were written; or the refusal.
+// Bodies in the bytes, each behind its header, by their places at their tags; 0 is no place, as `body_at` of specs/Inner/Places has it.
 #[derive(Clone, Copy)]
-pub enum Encoded {
-    Length(usize),
-    Refused(u8),
+struct Placed<'a> {
+    bytes: &'a [u8],
+    places: &'a [usize],
 }
 
-// The request at the places, with its closed dates written.
-fn answer(bytes: &[u8], places: &[usize], list: &mut [u32]) -> Decoded
-    requires { PlacesKept bytes.now places.now }
-    ensures { Decodes (asked_from (length list.old) (placed bytes.now places.now)) result list.old list.new }
-{
-    if places[places::EFFECTIVE] == 0 {
-        return Decoded::Refused(refusal::REQUEST);
+impl<'a> Bodies for Placed<'a> {
+    ghost body_of = { λ s. placed s.bytes.now s.places.now };
+
+    ghost sound = { λ s. PlacesKept s.bytes.now s.places.now };
+
+    fn body<'b>(&'b self, left_out: &'b [u8], tag: u8) -> &'b [u8] {
+        let place = self.places.get(tag as usize).copied().unwrap_or(0);
+        if place == 0 {
+            return left_out;
+        }
+        let size = numbers::pair_at(self.bytes, place - 2) as usize;
+        &self.bytes[place..place + size]
     }
-    if places[places::TERMINATION] == 0 {
-        return Decoded::Refused(refusal::REQUEST);
-    }
-    let from = places[places::CLOSED];
-    let closed = asking::closed_count(bytes, from);
-    if list.len() < closed {
-        return Decoded::Refused(refusal::ROOM);
-    }
-    asking::write_closed(bytes, from, closed, list);
-    let request = asking::request_at(bytes, places);
-    Decoded::Asked { request, closed }
 }
 
-fn read(bytes: &[u8], places: &mut [usize], closed: &mut [u32]) -> Decoded
+fn read(bytes: &[u8], places: &mut [usize], closed: &mut [u32]) -> Result<Decoded, Refusal>
     requires { Blank places.old }
     ensures { Decodes (decoded bytes.now (length closed.old)) result closed.old closed.new }
 {
     if 20000 < bytes.len() {
-        return Decoded::Refused(refusal::REQUEST);
+        return Err(Refusal::Request);
     }
     if fields::find(bytes, places) {
-        return answer(bytes, places, closed);
+        return asked_from(&Placed { bytes, places }, closed);
     }
-    Decoded::Refused(refusal::REQUEST)
+    Err(Refusal::Request)
 }
 
 // The request that the bytes hold, with its closed dates written over the start of the lent list. A refusal, 17 before 14, leaves
 // the list as it was.
-pub fn decode(bytes: &[u8], closed: &mut [u32]) -> Decoded
+pub fn decode(bytes: &[u8], closed: &mut [u32]) -> Result<Decoded, Refusal>
     ensures { Decodes (decoded bytes.now (length closed.old)) result closed.old closed.new }
 {
     let mut places = [0usize; 12];
     read(bytes, &mut places, closed)
 }
 
-// Writes the request's bytes, every field among them, over the start of the lent list. A refusal leaves the list as it was: 17 for
+// Writes the request's bytes, every field among them, over the start of the lent list, and answers how many. A refusal leaves the list as it was: 17 for
 // what the format cannot say, then 14.
-pub fn encode(request: Request, closed: &[u32], out: &mut [u8]) -> Encoded
+pub fn encode(request: Request, closed: &[u32], out: &mut [u8]) -> Result<usize, Refusal>
     ensures { Encodes (encoded request closed.now (length out.old)) result out.old out.new }
 {
     let count = closed.len();
-    if writing::is_sayable(request, count) {
-        let size = 60 + count * 4;
-        if out.len() < size {
-            return Encoded::Refused(refusal::ROOM);
-        }
-        writing::put_request(request, closed, out);
-        return Encoded::Length(size);
+    if !writing::is_sayable(&request, count) {
+        return Err(Refusal::Request);
     }
-    Encoded::Refused(refusal::REQUEST)
+    let size = 60 + count * 4;
+    if out.len() < size {
+        return Err(Refusal::Room);
+    }
+    writing::put_request(&request, closed, out);
+    Ok(size)
 }

@@ -6,34 +6,27 @@ ghost use Rattle.request.specs.Encode.{bytes4, head_of, spelt, fits16, letter_of
 ghost use Rattle.request.specs.Inner.Places.{Bits};
 
 use crate::tags;
+use date::Date;
 use period::{Period, Unit, sign};
 use steps::{Request, moves, rules};
 
 // Whether sixteen bits hold a number with its sign.
+#[tactic(auto, unfolding(crate::specs::Encode::fits16))]
 fn fits_sixteen(n: i32) -> bool
     ensures { result ≡ fits16 n }
 {
-    let size = sign::size(n);
-    if sign::is_negative(n) {
-        return size <= 32768;
-    }
-    size <= 32767
+    -32768 <= n && n <= 32767
 }
 
 // Whether the format can say the request and so many closed dates.
-pub(crate) fn is_sayable(q: Request, count: usize) -> bool
-    ensures { result ≡ sayable q count }
+#[tactic(auto, unfolding(crate::specs::Encode::sayable))]
+pub(crate) fn is_sayable(q: &Request, count: usize) -> bool
+    ensures { result ≡ sayable q.now count }
 {
-    let tenor = q.tenor;
-    if fits_sixteen(tenor.length) {
-        if q.mask < 128 {
-            return count <= 4096;
-        }
-        return false;
-    }
-    false
+    fits_sixteen(q.tenor.length) && q.mask < 128 && count <= 4096
 }
 
+#[tactic(auto, unfolding(crate::specs::Encode::letter_of))]
 fn letter_of(unit: Unit) -> u8
     ensures { result ≡ letter_of unit }
 {
@@ -45,13 +38,11 @@ fn letter_of(unit: Unit) -> u8
     }
 }
 
+#[tactic(auto, unfolding(crate::specs::Encode::bit))]
 fn bit_of(b: bool) -> u8
     ensures { result ≡ bit b }
 {
-    if b {
-        return 1;
-    }
-    0
+    u8::from(b)
 }
 
 // The sixteen bits of a number with its sign.
@@ -88,12 +79,12 @@ fn put_word(out: &mut [u8], at: usize, n: u32)
     out[at + 3] = (n % 256) as u8;
 }
 
-fn put_date(out: &mut [u8], at: usize, tag: u8, day: u32)
+fn put_date(out: &mut [u8], at: usize, tag: u8, date: Date)
     requires { at + 7 ≤ length out.old }
-    ensures { out.new ≡ laid out.old at (spelt tag (bytes4 day)) }
+    ensures { out.new ≡ laid out.old at (spelt tag (bytes4 date)) }
 {
     put_head(out, at, tag, 4);
-    put_word(out, at + 3, day);
+    put_word(out, at + 3, date.day);
 }
 
 fn put_byte(out: &mut [u8], at: usize, tag: u8, b: u8)
@@ -118,42 +109,43 @@ fn put_tenor(out: &mut [u8], at: usize, tenor: Period)
 }
 
 // The fields 01 to 03.
-fn put_dates(q: Request, out: &mut [u8])
-    requires { (60 ≤ length out.old) × (fits16 q.tenor.length ≡ true) }
-    ensures { out.new ≡ laid out.old 0 (dates_part q) }
+fn put_dates(q: &Request, out: &mut [u8])
+    requires { (60 ≤ length out.old) × (fits16 q.now.tenor.length ≡ true) }
+    ensures { out.new ≡ laid out.old 0 (dates_part q.now) }
 {
-    put_date(out, 0, tags::EFFECTIVE, q.effective.day);
-    put_date(out, 7, tags::TERMINATION, q.termination.day);
-    let tenor = q.tenor;
-    put_tenor(out, 14, tenor);
+    put_date(out, 0, tags::EFFECTIVE, q.effective);
+    put_date(out, 7, tags::TERMINATION, q.termination);
+    put_tenor(out, 14, q.tenor);
 }
 
 // The fields 04 to 07.
-fn put_choices(q: Request, out: &mut [u8])
+fn put_choices(q: &Request, out: &mut [u8])
     requires { 60 ≤ length out.old }
-    ensures { out.new ≡ laid out.old 20 (choices_part q) }
+    ensures { out.new ≡ laid out.old 20 (choices_part q.now) }
 {
-    let rule = q.rule;
-    let convention = q.convention;
-    let terminal = q.terminal;
-    put_byte(out, 20, tags::RULE, rules::rule_number(rule));
+    put_byte(out, 20, tags::RULE, rules::rule_number(q.rule));
     put_byte(
         out,
         24,
         tags::CONVENTION,
-        moves::convention_number(convention),
+        moves::convention_number(q.convention),
     );
-    put_byte(out, 28, tags::TERMINAL, moves::convention_number(terminal));
+    put_byte(
+        out,
+        28,
+        tags::TERMINAL,
+        moves::convention_number(q.terminal),
+    );
     put_byte(out, 32, tags::MONTHEND, bit_of(q.monthend));
 }
 
 // The fields 08 to 0A.
-fn put_anchors(q: Request, out: &mut [u8])
+fn put_anchors(q: &Request, out: &mut [u8])
     requires { 60 ≤ length out.old }
-    ensures { out.new ≡ laid out.old 36 (anchors_part q) }
+    ensures { out.new ≡ laid out.old 36 (anchors_part q.now) }
 {
-    put_date(out, 36, tags::FIRST, q.first.day);
-    put_date(out, 43, tags::PENULTIMATE, q.penultimate.day);
+    put_date(out, 36, tags::FIRST, q.first);
+    put_date(out, 43, tags::PENULTIMATE, q.penultimate);
     put_byte(out, 50, tags::MASK, q.mask);
 }
 
@@ -161,10 +153,8 @@ fn put_words(out: &mut [u8], at: usize, closed: &[u32])
     requires { at + length closed.now * 4 ≤ length out.old }
     ensures { out.new ≡ laid out.old at (dates_in closed.now) }
 {
-    let mut j = 0;
-    while j < closed.len() {
-        put_word(out, at + j * 4, closed[j]);
-        j += 1;
+    for (j, day) in closed.iter().enumerate() {
+        put_word(out, at + j * 4, *day);
     }
 }
 
@@ -179,9 +169,9 @@ fn put_closed(closed: &[u32], out: &mut [u8])
     put_head(out, 57 + size, tags::END, 0);
 }
 
-pub(crate) fn put_request(q: Request, closed: &[u32], out: &mut [u8])
-    requires { (60 + length closed.now * 4 ≤ length out.old) × (sayable q (length closed.now) ≡ true) }
-    ensures { out.new ≡ over (bytes_of q closed.now) out.old }
+pub(crate) fn put_request(q: &Request, closed: &[u32], out: &mut [u8])
+    requires { (60 + length closed.now * 4 ≤ length out.old) × (sayable q.now (length closed.now) ≡ true) }
+    ensures { out.new ≡ over (bytes_of q.now closed.now) out.old }
 {
     put_dates(q, out);
     put_choices(q, out);

@@ -8,7 +8,7 @@ use native.Mathlib.Omega.{arith}
 use lib.Dec.{eqb}
 use lib.ListN.{length, take, drop, length-drop}
 use lib.Seq.{length-take-le}
-use Rattle.refusal.specs.Answer.{Answer, given, refused, need, then, UNEVEN}
+use Rattle.refusal.specs.Answer.{Answer, given, refused, answered, number, need, then, UNEVEN}
 use Rattle.refusal.specs.Laws.Answers.{then_given, then_refused, holds}
 use borrow.Author.Rules.{rules}
 use borrow.Author.Tests.{eq-eqb, ne_eqb, eqb-true}
@@ -20,17 +20,19 @@ use Rattle.steps.specs.Rules.{is_zero, is_backward, rule_in_force}
 use Rattle.steps.specs.Table.{number_or, first_row, input_rows}
 use Rattle.steps.specs.Laws.Table.{accepted}
 use Rattle.steps.specs.Generate.{zero_dates, backward, forward, generate_by, generate}
-use Rattle.steps.specs.Build.{refused_built, admitted, answered, dates_after, flags_after}
+use Rattle.steps.specs.Build.{refused_built, admitted, dates_after, flags_after}
+use Rattle.steps.specs.Build.{answered as answered_built}
 use Rattle.steps.specs.Entries.{Entries, pairs_of, merged_entries, entries_of_made, entry_steps, entries_of, paid_of, moved_of, unadjusted_after, Written}
 use Rattle.working.specs.declared.Piece.{Piece}
-use Rattle.working.specs.declared.Generated.{Generated}
-use Rattle.working.specs.declared.Generated.TheVariants as generated-is
+use Rattle.std.specs.Prelude.{Result, Ok, Err}
+use Rattle.refusal.specs.declared.Refusal.{Refusal}
+use Rattle.refusal.specs.Refusals.{number_of}
 use Rattle.working.specs.Step.{was_given, was_refused, was_kept}
 use Rattle.working.specs.Part.{Work, working, Part, Placed}
 use Rattle.finish.specs.Finishing.{Lent, completed}
-use Rattle.finish.specs.Laws.Lending.{lent_fits, completed_on, written_as}
+use Rattle.finish.specs.Laws.Lending.{lent_fits, completed_on, never_0, written_as}
 use Rattle.finish.specs.Paying.{PaidAlready}
-use Rattle.working.specs.Making.{Checked, piece, generated, Laid, Generates}
+use Rattle.working.specs.Making.{Checked, piece, Laid, Generates}
 
 -- ---- Zero
 pub zero_size : {room n : ℕ} {w : Work} → Placed room n w → n ≤ 4096
@@ -74,29 +76,28 @@ module _ (l : List ℕ) (at n end : ℕ) (size : length l ≡ 4096) (e : end ≡
 
 -- ---- refusals, and what was generated
 pub refusal_written : (q : Request) (o : Answer Entries) (k : ℕ) (r : Built) (dates flags unadjusted : List ℕ) → r ≡ refused_built k → refused k ≡ o → Written q o r dates flags unadjusted dates flags unadjusted
-unfolding paid_of moved_of then answered dates_after flags_after unadjusted_after
+unfolding paid_of moved_of then answered_built dates_after flags_after unadjusted_after
 refusal_written q o k r dates flags unadjusted b e = rw (← e) (record { answer = b; dates_after_lem = refl; flags_after_lem = refl; unadjusted_after_lem = refl })
 
-module _ (q : Request) (closed : List ℕ) (lent : ℕ) {room : ℕ} (g : Generated) (w : Work) (paid : List ℕ) (p : Generates q closed room (generate q closed room) g w paid) (least : room ≡ min lent 4096) where
-  pub run_stop : (k : ℕ) → g ≡ generated-is.Refused k → refused k ≡ entry_steps q closed lent
-  unfolding entry_steps generated
+module _ (q : Request) (closed : List ℕ) (lent : ℕ) {room : ℕ} (g : Result Piece Refusal) (w : Work) (paid : List ℕ) (p : Generates q closed room (generate q closed room) g w paid) (least : room ≡ min lent 4096) where
+  pub run_stop : (k : Refusal) → g ≡ Err k → refused (number_of k) ≡ entry_steps q closed lent
+  unfolding entry_steps
   run_stop k e =
-      let h : generated g ≡ refused k = rw e in
-      let s : generate q closed room ≡ refused k = was_refused p k h in
-      then_refused _ k _ (rw least at s)
+      let h : answered g ≡ refused (number_of k) = rw e in
+      let s : generate q closed room ≡ refused (number_of k) = was_refused p (number_of k) h in
+      then_refused _ (number_of k) _ (rw least at s)
 
-  pub run_on : (c : Piece) → g ≡ generated-is.Ready c → then (pairs_of q closed c.seed (take c.n (drop c.from w.days))) (merged_entries (take (c.n - 1) (drop c.marked w.marks)) c.tries) ≡ entry_steps q closed lent
-  unfolding entry_steps entries_of_made generated piece
+  pub run_on : (c : Piece) → g ≡ Ok c → then (pairs_of q closed c.seed (take c.n (drop c.from w.days))) (merged_entries (take (c.n - 1) (drop c.marked w.marks)) c.tries) ≡ entry_steps q closed lent
+  unfolding entry_steps entries_of_made piece
   run_on c e =
-      let h : generated g ≡ given c = rw e in
+      let h : answered g ≡ given c = rw e in
       let k : generate q closed room ≡ given (piece w c) = was_given p c h in
       then_given _ _ _ _ (rw least at k) refl
 
   -- what was generated fits into what is lent
-  pub run_laid : (c : Piece) → g ≡ generated-is.Ready c → Laid q closed lent w paid c
-  unfolding generated
+  pub run_laid : (c : Piece) → g ≡ Ok c → Laid q closed lent w paid c
   run_laid c e =
-      let h : generated g ≡ given c = rw e in
+      let h : answered g ≡ given c = rw e in
       let d = was_kept p c h in
       let l = d.lies in
       let f = l.fits in
@@ -138,14 +139,24 @@ module _ (q : Request) (closed : List ℕ) (dates flags unadjusted number : ℕ)
       (checked q closed dates flags z.1, ((accepted q closed dates flags z.1).even, eqb-true dates unadjusted z.0))
 
 -- a build, in working lists of its own or lent ones
-module _ (q : Request) (closed dates flags unadjusted : List ℕ) (number : ℕ) (p : number ≡ number_or (not (eqb (length dates) (length unadjusted))) UNEVEN (first_row (input_rows q closed (length dates) (length flags)))) where
-  pub turned_away : (r : Built) → r ≡ refused_built number → (number ≡ 0 → ⊥) → Written q (entries_of q closed (length dates) (length flags) (length unadjusted)) r dates flags unadjusted dates flags unadjusted
-  turned_away r b h = refusal_written q _ number r dates flags unadjusted b (build_refused q closed (length dates) (length flags) (length unadjusted) number p h)
+module _ (q : Request) (closed dates flags unadjusted : List ℕ) (input : Result (Unit {0}) Refusal) (p : number (answered input) ≡ number_or (not (eqb (length dates) (length unadjusted))) UNEVEN (first_row (input_rows q closed (length dates) (length flags)))) where
+  pub turned_away : (k : Refusal) (n : ℕ) (r : Built) → input ≡ Err k → n ≡ number_of k → r ≡ refused_built n → Written q (entries_of q closed (length dates) (length flags) (length unadjusted)) r dates flags unadjusted dates flags unadjusted
+  unfolding number
+  turned_away k n r e f b =
+      refusal_written q _ (number_of k) r dates flags unadjusted (b ∙ ap refused_built f) (build_refused q closed (length dates) (length flags) (length unadjusted) (number_of k) (rw e at p) (never_0 k))
 
-  pub run_whole : (r : Built) (dates' flags' unadjusted' : List ℕ) → number ≡ 0 → Written q (entry_steps q closed (length dates)) r dates flags unadjusted dates' flags' unadjusted' → Written q (entries_of q closed (length dates) (length flags) (length unadjusted)) r dates flags unadjusted dates' flags' unadjusted'
-  run_whole r dates' flags' unadjusted' e w = written_as q _ _ r dates flags unadjusted dates' flags' unadjusted' (build_admitted q closed (length dates) (length flags) (length unadjusted) number p e) w
+  module _ (u : Unit {0}) (e : input ≡ Ok u) where
+    none : 0 ≡ number_or (not (eqb (length dates) (length unadjusted))) UNEVEN (first_row (input_rows q closed (length dates) (length flags)))
+    unfolding number
+    none = rw e at p
 
-pub ruleset builds = (number_uneven, number_even, turned_away, run_whole, rules)
+    pub run_checked : Checked q closed × ((length dates ≡ length flags) × (length dates ≡ length unadjusted))
+    run_checked = build_checked q closed (length dates) (length flags) (length unadjusted) 0 none refl
+
+    pub run_whole : (r : Built) (dates' flags' unadjusted' : List ℕ) → Written q (entry_steps q closed (length dates)) r dates flags unadjusted dates' flags' unadjusted' → Written q (entries_of q closed (length dates) (length flags) (length unadjusted)) r dates flags unadjusted dates' flags' unadjusted'
+    run_whole r dates' flags' unadjusted' w = written_as q _ _ r dates flags unadjusted dates' flags' unadjusted' (build_admitted q closed (length dates) (length flags) (length unadjusted) 0 none refl) w
+
+pub ruleset builds = (number_uneven, number_even, rules)
 
 -- the last steps on a part of the working lists that belongs together with what is lent
 pub finish_is : (q : Request) (closed : List ℕ) (seed tries : ℕ) (ds ds' ps fs fs' dates flags unadjusted : List ℕ) → ds ≡ ds' → fs ≡ fs' → Lent ds ps fs dates flags unadjusted → completed q closed seed tries ds fs (length ps) (length dates) (length flags) (length unadjusted) ≡ then (pairs_of q closed seed ds') (merged_entries fs' tries)

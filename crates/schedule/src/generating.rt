@@ -4,20 +4,23 @@ ghost use Rattle.steps.specs.Generate.{zero_dates, generate};
 ghost use Rattle.working.specs.Part.{working, Part};
 ghost use Rattle.working.specs.Making.{Checked, Generates, Zeroed};
 
+use refusal::Refusal;
 use steps::{Request, Sure, rules};
-use working::{Filled, Generated, Piece, lists};
+use working::{Piece, lists};
 
 // Zero: the effective date and termination.
-fn zero_dates(q: Request, room: usize, work: &mut [u32], marks: &mut [u8]) -> Generated
+fn zero_dates(
+    q: &Request,
+    room: usize,
+    work: &mut [u32],
+    marks: &mut [u8],
+) -> Result<Piece, Refusal>
     requires { Part room 0 (working work.old marks.old) }
-    ensures { Zeroed room (zero_dates q room) result (working work.new marks.new) }
+    ensures { Zeroed room (zero_dates q.now room) result (working work.new marks.new) }
 {
-    let n = match lists::put_two(true, room, q.termination.day, q.effective.day, work, marks) {
-        Filled::Refused(k) => return Generated::Refused(k),
-        Filled::Ready(n) => n,
-    };
+    let n = lists::put_two(true, room, q.termination.day, q.effective.day, work, marks)?;
     let from = 4096 - n;
-    Generated::Ready(Piece {
+    Ok(Piece {
         from,
         marked: from,
         n,
@@ -30,23 +33,23 @@ fn zero_dates(q: Request, room: usize, work: &mut [u32], marks: &mut [u8]) -> Ge
 }
 
 pub(crate) fn generate(
-    q: Request,
+    q: &Request,
     closed: &[u32],
     room: usize,
     work: &mut [u32],
     paid: &mut [u32],
     marks: &mut [u8],
-) -> Generated
-    requires checked { Checked q closed.now }
+) -> Result<Piece, Refusal>
+    requires checked { Checked q.now closed.now }
     requires part { Part room 0 (working work.old marks.old) × (length paid.old ≡ 4096) }
-    ensures { Generates q closed.now room (generate q closed.now room) result (working work.new marks.new) paid.new }
+    ensures { Generates q.now closed.now room (generate q.now closed.now room) result (working work.new marks.new) paid.new }
 {
-    let rule = rules::rule_in_force(q);
+    let rule = rules::rule_in_force(*q);
     if rules::is_zero(rule) {
         return zero_dates(q, room, work, marks);
     }
     if rules::is_backward(rule) {
-        return backwards::backward(q, closed, room, work, paid, marks);
+        return backwards::backward(*q, closed, room, work, paid, marks);
     }
-    forwards::forward(q, closed, room, work, paid, marks)
+    forwards::forward(*q, closed, room, work, paid, marks)
 }

@@ -1,8 +1,8 @@
 // Payment schedules, built in three working lists of 4,096 places.
 #![tactic(auto)]
 
-ghost use Rattle.std.specs.Prelude.{◌≡◌, true, not, ◌+◌, ◌-◌, ◌≤◌, min, eqb, length, take, drop};
-ghost use Rattle.refusal.specs.Answer.{then, UNEVEN};
+ghost use Rattle.std.specs.Prelude.{◌≡◌, true, not, ◌+◌, ◌-◌, ◌≤◌, eqb, length, take, drop};
+ghost use Rattle.refusal.specs.Answer.{answered, number, then, UNEVEN};
 ghost use Rattle.calendar.specs.Open.{closed_ok};
 ghost use Rattle.steps.specs.Table.{number_or, first_row, input_rows};
 ghost use Rattle.steps.specs.Entries.{Written, pairs_of, merged_entries, entry_steps, entries_of};
@@ -10,20 +10,15 @@ ghost use Rattle.working.specs.Part.{working, Part};
 ghost use Rattle.working.specs.Making.{Checked, Laid};
 
 use finish::{Made, Paid};
+use refusal::Refusal;
 use steps::{Built, Request};
-use working::{Generated, Piece};
+use working::Piece;
 
 // The dates of a build, by its rule.
 mod generating;
 
-fn least(a: usize, b: usize) -> usize
-    ensures { result ≡ min a b }
-{
-    if a < b { a } else { b }
-}
-
-// The last steps, on the n dates from a place on and the flags between them. It has nine parameters: the lists go together three by
-// three, and no struct can hold a list that is lent.
+// The last steps, on the n dates from a place on and the flags between them. It has nine parameters, as the calls above it: `build_in`,
+// which docs/ name, is lent the lists one by one.
 fn finish_part(
     q: Request,
     closed: &[u32],
@@ -82,26 +77,32 @@ fn run(
     requires dates_len { (length dates.old ≡ length flags.old) × (length dates.old ≡ length unadjusted.old) }
     ensures { Written q (entry_steps q closed.now (length dates.old)) result dates.old flags.old unadjusted.old dates.new flags.new unadjusted.new }
 {
-    let room = least(dates.len(), 4096);
-    let made = generating::generate(q, closed, room, work, paid, marks);
-    match made {
-        Generated::Refused(k) => steps::refused(k),
-        Generated::Ready(piece) => {
+    let q = &q;
+    let room = dates.len().min(4096);
+    match generating::generate(q, closed, room, work, paid, marks) {
+        Ok(piece) => {
             finish_part(
-                q, closed, piece, work, paid, marks, dates, flags, unadjusted,
+                *q, closed, piece, work, paid, marks, dates, flags, unadjusted,
             )
         }
+        Err(refusal) => steps::refused(refusal.number()),
     }
 }
 
-// The number of the first refusal that the input meets, with lists of these lengths lent; or 0.
-fn input_number(q: Request, closed: &[u32], dates: usize, flags: usize, unadjusted: usize) -> u8
-    ensures { result ≡ number_or (not (eqb dates unadjusted)) UNEVEN (first_row (input_rows q closed.now dates flags)) }
+// The first refusal that the input meets, with lists of these lengths lent.
+fn check_input(
+    q: Request,
+    closed: &[u32],
+    dates: usize,
+    flags: usize,
+    unadjusted: usize,
+) -> Result<(), Refusal>
+    ensures { number (answered result) ≡ number_or (not (eqb dates unadjusted)) UNEVEN (first_row (input_rows q closed.now dates flags)) }
 {
     if dates != unadjusted {
-        return refusal::UNEVEN;
+        return Err(Refusal::Uneven);
     }
-    checks::input_refusal(q, closed, dates, flags)
+    checks::check(q, closed, dates, flags)
 }
 
 // Builds a schedule: the paid dates into the start of one lent list, the flags of the periods between them (1 regular) into the start
@@ -115,19 +116,20 @@ pub fn build(
 ) -> Built
     ensures { Written q (entries_of q closed.now (length dates.old) (length flags.old) (length unadjusted.old)) result dates.old flags.old unadjusted.old dates.new flags.new unadjusted.new }
 {
-    let number = input_number(q, closed, dates.len(), flags.len(), unadjusted.len());
-    if number != 0 {
-        return steps::refused(number);
+    let q = &q;
+    if let Err(refusal) = check_input(*q, closed, dates.len(), flags.len(), unadjusted.len()) {
+        return steps::refused(refusal.number());
     }
     let mut work = [0u32; 4096];
     let mut paid = [0u32; 4096];
     let mut marks = [0u8; 4096];
     run(
-        q, closed, &mut work, &mut paid, &mut marks, dates, flags, unadjusted,
+        *q, closed, &mut work, &mut paid, &mut marks, dates, flags, unadjusted,
     )
 }
 
-// The same in three working lists that the caller lends, whatever they hold: for who builds many schedules.
+// The same in three working lists that the caller lends, whatever they hold: for who builds many schedules. `build` is not this on lists
+// of its own, since a refused request then cleared 36,864 bytes for nothing.
 pub fn build_in(
     q: Request,
     closed: &[u32],
@@ -140,9 +142,9 @@ pub fn build_in(
 ) -> Built
     ensures { Written q (entries_of q closed.now (length dates.old) (length flags.old) (length unadjusted.old)) result dates.old flags.old unadjusted.old dates.new flags.new unadjusted.new }
 {
-    let number = input_number(q, closed, dates.len(), flags.len(), unadjusted.len());
-    if number != 0 {
-        return steps::refused(number);
+    let q = &q;
+    if let Err(refusal) = check_input(*q, closed, dates.len(), flags.len(), unadjusted.len()) {
+        return steps::refused(refusal.number());
     }
-    run(q, closed, work, paid, marks, dates, flags, unadjusted)
+    run(*q, closed, work, paid, marks, dates, flags, unadjusted)
 }

@@ -1,6 +1,6 @@
 -- A law for each way through the code, over what the calls on the way gave.
 -- Assumes nothing.
-use Prim.Native.Nat.{ℕ, zero, suc, ◌+◌, ◌-◌, ◌*◌, ◌<◌}
+use Prim.Native.Nat.{ℕ, zero, suc, ◌+◌, ◌-◌, ◌*◌, ◌<◌, ◌≤◌}
 use mathlib.Core.Path.{◌≡◌, refl, sym, ap, ◌∙◌}
 use mathlib.Core.Bool.{Bool, true, false}
 use mathlib.Core.List.{List}
@@ -10,9 +10,8 @@ use lib.IntN.{ℤ, pos, negsuc}
 use mir.Syntax.{w32}
 use mir.Val.{SFits, of_z}
 use borrow.Author.Rules.{rules}
-use borrow.Author.Tests.{ne_eqb, eq-eqb}
+use borrow.Author.Tests.{ne_eqb}
 use Rattle.refusal.specs.Answer.{Answer, given}
-use Rattle.period.specs.declared.Unit.TheVariants.{Days}
 use Rattle.period.specs.Laws.Signed.{abs_small}
 use Rattle.period.specs.declared.Period.{Period}
 use Rattle.date.specs.declared.Fields.{Fields}
@@ -23,10 +22,7 @@ use Rattle.steps.specs.declared.Rule.TheVariants.{Zero}
 use Rattle.steps.specs.declared.Request.{Request}
 use Rattle.steps.specs.declared.Rule.{Rule}
 use Rattle.steps.specs.Rules.{is_none, rule_under, rule_in_force, is_zero, tenor_under, tenor_in_force}
-use Rattle.steps.specs.Table.{is_given}
-use Rattle.steps.specs.Generate.{anchor_or}
 use Rattle.steps.specs.Finish.{seed_asked, seed_at_end}
-use Rattle.steps.specs.Build.{refused_built}
 
 -- ---- lengths
 pub none_test : (z : ℤ) → SFits w32 z → eqb (of_z w32 z) 0 ≡ is_none z
@@ -48,13 +44,16 @@ module _ (q : Request) (none : Bool) where
 pub ruleset rules_in_force = (rule_forced, rule_asked, rules)
 
 module _ (q : Request) (rule : Rule) (z : Bool) (r : rule ≡ rule_in_force q) (p : z ≡ is_zero rule) where
-  pub tenor_under_lem : (b : Bool) (tenor : Period) → z ≡ b → tenor ≡ tenor_under b q.tenor → tenor ≡ tenor_in_force q
+  pub tenor_by : (b : Bool) (tenor : Period) → z ≡ b → tenor ≡ tenor_under b q.tenor → tenor ≡ tenor_in_force q
   unfolding tenor_in_force
-  tenor_under_lem b tenor e h = let v : is_zero (rule_in_force q) ≡ b = sym (ap is_zero r) ∙ sym p ∙ e in rw v h
+  tenor_by b tenor e h = let v : is_zero (rule_in_force q) ≡ b = sym (ap is_zero r) ∙ sym p ∙ e in rw v h
 
 -- ---- the seed
 pub year_fits : (f : Fields) (day : ℕ) → day < 4294967296 → f ≡ fields_of day → 12 * f.year + f.month < 4294967296
 year_fits f day b e = let v = valid_at f day e in omega (arith, year_at_lem f day e, v)
+
+pub month_from_one : (f : Fields) (day : ℕ) → f ≡ fields_of day → 1 ≤ f.month
+month_from_one f day e = (valid_at f day e).month
 
 asked_of : (mask : ℕ) (closed : List ℕ) (r : Answer Bool) (n : ℕ) → (n ≡ 0 → ⊥) → r ≡ at_month_end mask closed n → r ≡ seed_asked n mask closed
 unfolding seed_asked
@@ -70,19 +69,6 @@ module _ (monthend : Bool) (mask : ℕ) (closed : List ℕ) (seed : ℕ) where
   unfolding seed_at_end seed_asked
   seed_none e z = rw (e, z)
 
-  pub seed_asked_lem : (r : Answer Bool) → monthend ≡ true → (seed ≡ 0 → ⊥) → r ≡ at_month_end mask closed seed → r ≡ seed_at_end monthend mask closed seed
+  pub seed_some : (r : Answer Bool) → monthend ≡ true → (seed ≡ 0 → ⊥) → r ≡ at_month_end mask closed seed → r ≡ seed_at_end monthend mask closed seed
   unfolding seed_at_end
-  seed_asked_lem r e z h = rw e (asked_of mask closed r seed z h)
-
--- ---- anchors
-pub anchor_none : (anchor other : ℕ) → anchor ≡ 0 → other ≡ anchor_or anchor other
-unfolding anchor_or is_given
-anchor_none anchor other e = simp (eq-eqb anchor 0 e)
-
-pub anchor_some : (anchor other : ℕ) → (anchor ≡ 0 → ⊥) → anchor ≡ anchor_or anchor other
-unfolding anchor_or is_given
-anchor_some anchor other e = simp (ne_eqb anchor 0 e)
-
--- ---- the record of a refusal
-pub refused_is : (n : ℕ) → record { number = n; count = 0; tries = 0; rule = Zero; tenor = record { length = pos 0; unit = Days }; moved = 0 } ≡ refused_built n
-refused_is n = refl
+  seed_some r e z h = rw e (asked_of mask closed r seed z h)

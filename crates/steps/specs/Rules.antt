@@ -1,6 +1,7 @@
 -- Document 01, "Schedule steps": the ten rules, and the groups of them that the steps speak of.
 -- Assumes nothing.
 use Rattle.std.specs.Prelude.{ℕ, ◌*◌, Bool, true, false, ◌||◌, List, [], ◌∷◌, eqb, ℤ, pos, nat_abs}
+use Rattle.refusal.specs.Answer.{Answer, at_place}
 use Rattle.period.specs.declared.Unit.{Unit}
 use Rattle.period.specs.declared.Unit.TheVariants.{Days, Weeks, Months, Years}
 use Rattle.period.specs.declared.Period.{Period}
@@ -25,6 +26,10 @@ rule_number ThirdWednesdayInclusive = 6
 rule_number OldCDS = 7
 rule_number CDS = 8
 rule_number CDS2015 = 9
+
+-- the rule with a number; a number outside the list is refused
+unfoldable pub rule_of : ℕ → Answer Rule
+rule_of = at_place rules
 
 -- ---- a group of rules is a list of its members
 unfoldable pub one_of : Rule → List Rule → Bool

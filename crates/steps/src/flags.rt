@@ -6,5 +6,5 @@ ghost use Rattle.steps.specs.Finish.{same_flag};
 pub fn same_flag(a: u32, b: u32) -> u8
     ensures { result ≡ same_flag a b }
 {
-    if a == b { 1 } else { 0 }
+    u8::from(a == b)
 }

@@ -1,6 +1,8 @@
 // What becomes of a date after generating.
+#![tactic(auto, unfolding(calendar::specs::Adjust::convention_number, crate::specs::Inner::Same::same_convention, crate::specs::Finish::third_wednesday, crate::specs::Finish::unless, crate::specs::Finish::first_move, crate::specs::Finish::last_move, crate::specs::Finish::month_end_move, crate::specs::Finish::middle_move))]
+
 ghost use Rattle.std.specs.Prelude.{◌≡◌, true};
-ghost use Rattle.date.specs.Date.{dated};
+ghost use Rattle.refusal.specs.Answer.{answered};
 ghost use Rattle.calendar.specs.Open.{closed_ok};
 ghost use Rattle.calendar.specs.Adjust.{convention_number};
 ghost use Rattle.steps.specs.Inner.Same.{same_convention};
@@ -8,39 +10,34 @@ ghost use Rattle.steps.specs.Finish.{third_wednesday, moved, unless, first_move,
 
 use crate::{Move, Request, rules};
 use calendar::{Convention, month_ends, moves, search};
-use date::{Date, Dated, civil, span};
+use date::{Date, civil, span};
+use refusal::Refusal;
 
 // Document 01's number of a convention.
 pub fn convention_number(convention: Convention) -> u8
     ensures { result ≡ convention_number convention }
 {
-    match convention {
-        Convention::Unadjusted => 0,
-        Convention::Following => 1,
-        Convention::ModifiedFollowing => 2,
-        Convention::Preceding => 3,
-        Convention::ModifiedPreceding => 4,
-    }
+    convention as u8
 }
 
 pub fn is_same(a: Convention, b: Convention) -> bool
     ensures { result ≡ same_convention a b }
 {
-    convention_number(a) == convention_number(b)
+    a == b
 }
 
-pub fn third_wednesday(day: u32) -> Dated
-    ensures { dated result ≡ third_wednesday day }
+pub fn third_wednesday(day: u32) -> Result<Date, Refusal>
+    ensures { answered result ≡ third_wednesday day }
 {
     let f = civil::fields_of(day);
     Date::nth_weekday(3, 3, f.month, f.year)
 }
 
-pub fn moved(day: u32, what: Move, mask: u8, closed: &[u32]) -> Dated
-    ensures { closed_ok closed.now ≡ true → dated result ≡ moved mask closed.now what day }
+pub fn moved(day: u32, what: Move, mask: u8, closed: &[u32]) -> Result<Date, Refusal>
+    ensures { closed_ok closed.now ≡ true → answered result ≡ moved mask closed.now what day }
 {
     match what {
-        Move::Stay => Dated::Day(Date { day }),
+        Move::Stay => Ok(Date { day }),
         Move::ThirdWednesdays => third_wednesday(day),
         Move::Adjust(convention) => moves::date_of(search::adjust(day, convention, mask, closed)),
         Move::MonthEnds => span::last_of_month(day),
@@ -78,10 +75,7 @@ fn month_end_move(convention: Convention) -> Move
 {
     match convention {
         Convention::Unadjusted => Move::MonthEnds,
-        Convention::Following => Move::OpenMonthEnds,
-        Convention::ModifiedFollowing => Move::OpenMonthEnds,
-        Convention::Preceding => Move::OpenMonthEnds,
-        Convention::ModifiedPreceding => Move::OpenMonthEnds,
+        _ => Move::OpenMonthEnds,
     }
 }
 

@@ -1,4 +1,6 @@
 // The rules' numbers, the groups of rules that the steps speak of, and the rule and the tenor in force.
+#![tactic(auto, unfolding(crate::specs::Rules::rule_number, crate::specs::Rules::one_of, crate::specs::Rules::is_zero, crate::specs::Rules::is_backward, crate::specs::Rules::on_twentieths, crate::specs::Rules::in_imm_months, crate::specs::Rules::is_credit, crate::specs::Rules::is_old_cds))]
+
 ghost use Rattle.std.specs.Prelude.{◌≡◌};
 ghost use Rattle.steps.specs.Rules.{rule_number, is_zero, is_backward, on_twentieths, in_imm_months, is_credit, is_old_cds, rule_in_force, tenor_in_force};
 
@@ -9,83 +11,59 @@ use period::{Period, Unit};
 pub fn rule_number(rule: Rule) -> u8
     ensures { result ≡ rule_number rule }
 {
-    match rule {
-        Rule::Zero => 0,
-        Rule::Backward => 1,
-        Rule::Forward => 2,
-        Rule::Twentieth => 3,
-        Rule::TwentiethIMM => 4,
-        Rule::ThirdWednesday => 5,
-        Rule::ThirdWednesdayInclusive => 6,
-        Rule::OldCDS => 7,
-        Rule::CDS => 8,
-        Rule::CDS2015 => 9,
-    }
+    rule as u8
 }
 
 pub fn is_zero(rule: Rule) -> bool
     ensures { result ≡ is_zero rule }
 {
-    match rule {
-        Rule::Zero => true,
-        _ => false,
-    }
+    rule == Rule::Zero
 }
 
 pub fn is_backward(rule: Rule) -> bool
     ensures { result ≡ is_backward rule }
 {
-    match rule {
-        Rule::Backward => true,
-        _ => false,
-    }
+    rule == Rule::Backward
 }
 
 // The middle dates are twentieths.
 pub fn on_twentieths(rule: Rule) -> bool
     ensures { result ≡ on_twentieths rule }
 {
-    match rule {
-        Rule::Twentieth | Rule::TwentiethIMM | Rule::OldCDS | Rule::CDS | Rule::CDS2015 => true,
-        _ => false,
-    }
+    matches!(
+        rule,
+        Rule::Twentieth | Rule::TwentiethIMM | Rule::OldCDS | Rule::CDS | Rule::CDS2015
+    )
 }
 
 // The twentieths are those of March, June, September and December.
 pub fn in_imm_months(rule: Rule) -> bool
     ensures { result ≡ in_imm_months rule }
 {
-    match rule {
-        Rule::TwentiethIMM | Rule::OldCDS | Rule::CDS | Rule::CDS2015 => true,
-        _ => false,
-    }
+    matches!(
+        rule,
+        Rule::TwentiethIMM | Rule::OldCDS | Rule::CDS | Rule::CDS2015
+    )
 }
 
 // The dates start at the previous twentieth.
 pub fn is_credit(rule: Rule) -> bool
     ensures { result ≡ is_credit rule }
 {
-    match rule {
-        Rule::CDS | Rule::CDS2015 => true,
-        _ => false,
-    }
+    matches!(rule, Rule::CDS | Rule::CDS2015)
 }
 
 pub fn is_old_cds(rule: Rule) -> bool
     ensures { result ≡ is_old_cds rule }
 {
-    match rule {
-        Rule::OldCDS => true,
-        _ => false,
-    }
+    rule == Rule::OldCDS
 }
 
 // Length 0 forces Zero.
 pub fn rule_in_force(q: Request) -> Rule
     ensures { result ≡ rule_in_force q }
 {
-    let tenor = q.tenor;
-    if tenors::is_none(tenor) {
+    if tenors::is_none(q.tenor) {
         return Rule::Zero;
     }
     q.rule

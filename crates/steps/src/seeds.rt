@@ -1,17 +1,19 @@
 // The seed that candidates are counted from.
 ghost use Rattle.std.specs.Prelude.{◌≡◌, true, ◌&&◌, eqb};
-ghost use Rattle.date.specs.Civil.{month_length, pick_n};
+ghost use Rattle.date.specs.Civil.{month_length};
 ghost use Rattle.calendar.specs.Open.{closed_ok};
-ghost use Rattle.calendar.specs.Calendar.{decided};
+ghost use Rattle.refusal.specs.Answer.{answered};
 ghost use Rattle.steps.specs.Candidates.{seed_of};
 ghost use Rattle.steps.specs.Generate.{anchor_or};
 ghost use Rattle.steps.specs.Finish.{seed_at_end};
 
 use crate::Seed;
-use calendar::{Decided, month_ends};
+use calendar::month_ends;
 use date::{Fields, civil};
+use refusal::Refusal;
 
 // An anchor, or the other date where it is absent.
+#[tactic(auto, unfolding(crate::specs::Generate::anchor_or, crate::specs::Table::is_given))]
 pub fn anchor_or(anchor: u32, other: u32) -> u32
     ensures { result ≡ anchor_or anchor other }
 {
@@ -22,39 +24,34 @@ pub fn anchor_or(anchor: u32, other: u32) -> u32
 fn keeps_month_end(monthend: bool, f: Fields) -> bool
     ensures { result ≡ (monthend && eqb f.day (month_length f.year f.month)) }
 {
-    if monthend {
-        return f.day == civil::month_length(f.year, f.month);
-    }
-    false
-}
-
-fn pick(test: bool, a: u32, b: u32) -> u32
-    ensures { result ≡ pick_n test a b }
-{
-    if test { a } else { b }
+    monthend && f.day == civil::month_length(f.year, f.month)
 }
 
 // A seed at the end of its month keeps day 31, which no month exceeds.
+#[tactic(auto, using(crate::proofs::Ways::year_fits, crate::proofs::Ways::month_from_one), unfolding(crate::specs::Candidates::seed_of, crate::specs::Candidates::last_day, date::specs::Date::month_index))]
 pub fn seed_of(monthend: bool, day: u32) -> Seed
     ensures { result ≡ seed_of monthend day }
 {
     let f = civil::fields_of(day);
+    let keep = if keeps_month_end(monthend, f) {
+        31
+    } else {
+        f.day
+    };
     Seed {
         day,
         month: 12 * f.year + f.month - 1,
-        keep: pick(keeps_month_end(monthend, f), 31, f.day),
+        keep,
     }
 }
 
 // Whether the middle dates are month ends: end of month is on, and the seed is at the given calendar's month end. 0 is no seed.
-pub fn seed_at_end(monthend: bool, seed: u32, mask: u8, closed: &[u32]) -> Decided
-    ensures { closed_ok closed.now ≡ true → decided result ≡ seed_at_end monthend mask closed.now seed }
+#[tactic(auto, using(crate::proofs::Ways::seed_off, crate::proofs::Ways::seed_none, crate::proofs::Ways::seed_some))]
+pub fn seed_at_end(monthend: bool, seed: u32, mask: u8, closed: &[u32]) -> Result<bool, Refusal>
+    ensures { closed_ok closed.now ≡ true → answered result ≡ seed_at_end monthend mask closed.now seed }
 {
-    if monthend {
-        if seed == 0 {
-            return Decided::No;
-        }
-        return month_ends::at_month_end(seed, mask, closed);
+    if !monthend || seed == 0 {
+        return Ok(false);
     }
-    Decided::No
+    month_ends::at_month_end(seed, mask, closed)
 }

@@ -1,27 +1,29 @@
 // Twentieths of months, for days from 1800 to 2399.
+#![tactic(auto, unfolding(crate::specs::Twentieths::twentieth_of, crate::specs::Twentieths::moved_if, crate::specs::Twentieths::skip_of, crate::specs::Twentieths::to_imm_month, crate::specs::Twentieths::next_twentieth, crate::specs::Twentieths::previous_twentieth, date::specs::Date::shifted, refusal::specs::Answer::then))]
+
 ghost use Rattle.std.specs.Prelude.{◌≡◌};
-ghost use Rattle.refusal.specs.Answer.{then};
-ghost use Rattle.date.specs.Date.{dated};
+ghost use Rattle.refusal.specs.Answer.{answered};
 ghost use Rattle.steps.specs.Twentieths.{twentieth_of, moved_if, skip_of, to_imm_month, next_twentieth, previous_twentieth};
 
 use crate::{Rule, rules};
-use date::{Date, Dated, civil, span};
+use date::{Date, civil, span};
 use period::Unit;
+use refusal::Refusal;
 
-fn twentieth_of(day: u32) -> Dated
-    ensures { dated result ≡ twentieth_of day }
+fn twentieth_of(day: u32) -> Result<Date, Refusal>
+    ensures { answered result ≡ twentieth_of day }
 {
     let f = civil::fields_of(day);
     Date::make(f.year, f.month, 20)
 }
 
-fn moved_if(moves: bool, back: bool, months: u32, day: u32) -> Dated
-    ensures { dated result ≡ moved_if moves back months day }
+fn moved_if(moves: bool, back: bool, months: u32, day: u32) -> Result<Date, Refusal>
+    ensures { answered result ≡ moved_if moves back months day }
 {
     if moves {
         return span::shift_by(day, back, months, Unit::Months);
     }
-    Dated::Day(Date { day })
+    Ok(Date { day })
 }
 
 // How many months a month lies after the last IMM month, or before the next.
@@ -34,8 +36,8 @@ fn skip_of(back: bool, month: u32) -> u32
     (3 - month % 3) % 3
 }
 
-fn to_imm_month(rule: Rule, back: bool, day: u32) -> Dated
-    ensures { dated result ≡ to_imm_month rule back day }
+fn to_imm_month(rule: Rule, back: bool, day: u32) -> Result<Date, Refusal>
+    ensures { answered result ≡ to_imm_month rule back day }
 {
     let f = civil::fields_of(day);
     moved_if(
@@ -46,33 +48,20 @@ fn to_imm_month(rule: Rule, back: bool, day: u32) -> Dated
     )
 }
 
-fn on_to_imm_month(twentieth: Dated, rule: Rule, back: bool) -> Dated
-    ensures { dated result ≡ then (dated twentieth) (to_imm_month rule back) }
-{
-    match twentieth {
-        Dated::Day(t) => to_imm_month(rule, back, t.day),
-        Dated::Refused(n) => Dated::Refused(n),
-    }
-}
-
 // The first twentieth on or after the day.
-pub fn next(day: u32, rule: Rule) -> Dated
-    ensures { dated result ≡ next_twentieth rule day }
+pub fn next(day: u32, rule: Rule) -> Result<Date, Refusal>
+    ensures { answered result ≡ next_twentieth rule day }
 {
-    let twentieth = twentieth_of(day);
-    match twentieth {
-        Dated::Day(t) => on_to_imm_month(moved_if(t.day < day, false, 1, t.day), rule, false),
-        Dated::Refused(n) => Dated::Refused(n),
-    }
+    let twentieth = twentieth_of(day)?;
+    let coming = moved_if(twentieth.day < day, false, 1, twentieth.day)?;
+    to_imm_month(rule, false, coming.day)
 }
 
 // The last twentieth on or before the day.
-pub fn previous(day: u32, rule: Rule) -> Dated
-    ensures { dated result ≡ previous_twentieth rule day }
+pub fn previous(day: u32, rule: Rule) -> Result<Date, Refusal>
+    ensures { answered result ≡ previous_twentieth rule day }
 {
-    let twentieth = twentieth_of(day);
-    match twentieth {
-        Dated::Day(t) => on_to_imm_month(moved_if(day < t.day, true, 1, t.day), rule, true),
-        Dated::Refused(n) => Dated::Refused(n),
-    }
+    let twentieth = twentieth_of(day)?;
+    let former = moved_if(day < twentieth.day, true, 1, twentieth.day)?;
+    to_imm_month(rule, true, former.day)
 }

@@ -1,54 +1,24 @@
--- A law for each way through `pace_of` and `candidate`.
+-- A law for each way through `candidate`.
 -- Assumes nothing.
 use mathlib.Core.Path.{◌≡◌}
 use mathlib.Core.Bool.{Bool, true, false}
-use Prim.Native.Nat.{ℕ, ◌+◌, ◌-◌, ◌*◌, ◌≤◌, ◌<◌, min}
+use Prim.Native.Nat.{ℕ, ◌+◌, ◌-◌, ◌*◌, ◌≤◌, ◌<◌}
 use native.Mathlib.Nat.{mul-le-mul}
 use native.Mathlib.Omega.{arith}
 use lib.Dec.{leb}
-use lib.IntN.{nat_abs}
-use mir.Syntax.{w32, w64}
+use mir.Syntax.{w64}
 use mir.Val.{Fits}
 use borrow.Author.Tests.{lt-leb}
 use Rattle.refusal.specs.Answer.{Answer, refused, BOOK}
 use Rattle.refusal.specs.Laws.Answers.{fails, after}
-use Rattle.period.specs.declared.Unit.TheVariants.{Days, Weeks, Months, Years}
-use Rattle.period.specs.declared.Period.{Period}
+use Rattle.period.specs.declared.Unit.TheVariants.{Days}
 use Rattle.date.specs.Date.{SPAN_FIRST, SPAN_LAST, step, shifted, shift_days, within_span, in_month}
 use Rattle.date.specs.Laws.Made.{make_early}
 use Rattle.date.specs.Laws.Moves.{month_late}
 use Rattle.steps.specs.declared.Pace.{Pace}
 use Rattle.steps.specs.declared.Seed.{Seed}
-use Rattle.steps.specs.Rules.{pace_by}
 use Rattle.steps.specs.Candidates.{candidate, candidate_by}
 use Rattle.working.specs.Paces.{pace}
-
--- ---- the pace of a tenor
-pub times_fits : (m n x : ℕ) → m ≤ 12 → n ≡ min x 1200 → Fits w32 (m * n)
-times_fits m n x b e = let few : n ≤ 1200 = omega arith in record { fits = omega (arith, mul-le-mul b few) }
-
-pub least_left : (n r : ℕ) → n < 1200 → r ≡ n → r ≡ min n 1200
-least_left n r h e = omega arith
-
-pub least_right : (n r : ℕ) → 1200 ≤ n → r ≡ 1200 → r ≡ min n 1200
-least_right n r h e = omega arith
-
-module _ (t : Period) (n : ℕ) (e : n ≡ min (nat_abs t.length) 1200) where
-  pub pace_days : t.unit ≡ Days → record { monthly = false; size = n } ≡ pace t
-  unfolding pace pace_by
-  pace_days u = rw (u, e)
-
-  pub pace_weeks : t.unit ≡ Weeks → record { monthly = false; size = 7 * n } ≡ pace t
-  unfolding pace pace_by
-  pace_weeks u = rw (u, e)
-
-  pub pace_months : t.unit ≡ Months → record { monthly = true; size = n } ≡ pace t
-  unfolding pace pace_by
-  pace_months u = rw (u, e)
-
-  pub pace_years : t.unit ≡ Years → record { monthly = true; size = 12 * n } ≡ pace t
-  unfolding pace pace_by
-  pace_years u = rw (u, e)
 
 -- ---- a candidate
 pub product_fits : (k s : ℕ) → k < 4294967296 → s < 4294967296 → Fits w64 (k * s)

@@ -17,9 +17,10 @@ use Rattle.steps.specs.Generate.{put, has_room_in}
 use Rattle.steps.specs.Finish.{each}
 use Rattle.steps.specs.Laws.Parts.{moved_on, moved_last}
 use Rattle.working.specs.Paying.{PaidSo, Paid}
-use Rattle.working.specs.declared.Filled.TheVariants.{Ready, Refused}
+use Rattle.std.specs.Prelude.{Ok, Err}
+use Rattle.refusal.specs.declared.Refusal.TheVariants.{Room}
 use Rattle.working.specs.Step.{gives, refuses}
-use Rattle.working.specs.Part.{Work, working, Part, held, last_put, last_day, has_place, place_of, filled, Filling}
+use Rattle.working.specs.Part.{Work, working, Part, held, last_put, last_day, has_place, place_of, Filling}
 use Rattle.working.specs.Held.{put_length, none_put}
 
 -- ---- places
@@ -139,13 +140,13 @@ newest_none back l n s e = rw (e, none_put back l s) refl
 
 -- ---- put
 module _ {room n : ℕ} {w : Work} (back : Bool) (p : Part room n w) (day mark : ℕ) where
-  pub put_full : room ≤ n → Filling back room (put room day mark (held back n w)) (Refused 14) w
-  unfolding put has_room_in filled held
+  pub put_full : room ≤ n → Filling back room (put room day mark (held back n w)) (Err Room) w
+  unfolding put has_room_in held
   put_full h =
       refuses 14 (fails ROOM _ _ (le-ltb (length (last_put back n w.days)) room (let l = put_length back w.days n p.work_size (omega (arith, p)) in omega arith)))
 
-  pub put_ready : (at : ℕ) → n < room → at ≡ place_of back n → Filling back room (put room day mark (held back n w)) (Ready (n + 1)) (working (set w.days at day) (set w.marks at mark))
-  unfolding put has_room_in filled held
+  pub put_ready : (at : ℕ) → n < room → at ≡ place_of back n → Filling back room (put room day mark (held back n w)) (Ok (n + 1)) (working (set w.days at day) (set w.marks at mark))
+  unfolding put has_room_in held
   put_ready at h e =
       let a = one_more back w.days n day p.work_size (omega (arith, p)) in
       let b = one_more back w.marks n mark p.marks_size (omega (arith, p)) in

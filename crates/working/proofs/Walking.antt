@@ -9,12 +9,14 @@ use native.Mathlib.Omega.{arith}
 use lib.ListN.{length, set}
 use lib.Dec.{eqb}
 use borrow.Author.Tests.{eq-eqb}
-use Rattle.refusal.specs.Answer.{Answer, given, refused, then, BOOK}
-use Rattle.date.specs.declared.Date.{Date}
-use Rattle.date.specs.declared.Dated.{Dated}
-use Rattle.date.specs.declared.Dated.TheVariants as dated-is
-use Rattle.date.specs.Date.{SPAN_LAST, dated}
-use Rattle.date.specs.Laws.Made.{given_day}
+use Rattle.std.specs.Prelude.{Result, Ok, Err, IsErr, IsErrAnd}
+use Rattle.std.specs.Result.{result_unwrap_or}
+use Rattle.refusal.specs.declared.Refusal.{Refusal}
+use Rattle.refusal.specs.declared.Refusal.TheVariants.{Book}
+use Rattle.refusal.specs.Refusals.{number_of}
+use Rattle.refusal.specs.Answer.{Answer, given, refused, answered, then, BOOK}
+use Rattle.refusal.specs.Laws.Answers.{handed_on}
+use Rattle.date.specs.Date.{SPAN_LAST}
 use Rattle.calendar.specs.declared.Convention.{Convention}
 use Rattle.calendar.specs.Open.{closed_ok}
 use Rattle.calendar.specs.Adjust.{adjusted}
@@ -23,20 +25,17 @@ use Rattle.steps.specs.Inner.Sure.{Surely}
 use Rattle.steps.specs.Candidates as steps
 use Rattle.steps.specs.Candidates.{candidate, is_past, unless_same, unless_past, turn_of}
 use Rattle.steps.specs.Generate.{Lists, Walk, newest, put, on_turn, last_try, walk}
-use Rattle.working.specs.declared.Filled.{Filled}
-use Rattle.working.specs.declared.Filled.TheVariants as Filled-is
 use Rattle.working.specs.declared.candidates.Turn.{Turn}
-use Rattle.working.specs.declared.candidates.Turn.TheVariants.{Past, Skip, Keep, Stop}
+use Rattle.working.specs.declared.candidates.Turn.TheVariants.{Past, Skip, Keep}
 use Rattle.working.specs.declared.walks.Walked.{Walked}
-use Rattle.working.specs.declared.walks.Walked.TheVariants.{Ready, Refused}
 use Rattle.working.specs.declared.Begin.{Begin}
 use Rattle.working.specs.declared.Tip.{Tip}
-use Rattle.working.specs.Step.{seen, gives, refuses, gives_as, gives_less, was_kept}
+use Rattle.working.specs.Step.{Gives, seen, Kept, gives, refuses, gives_as, gives_less, was_kept}
 use Rattle.working.specs.declared.Course.{Course}
 use Rattle.working.specs.declared.candidates.Known.{Known}
-use Rattle.working.specs.Part.{Work, Part, Begun, held, last_put, last_day, place_of, filled, Filling, Fills, begun}
+use Rattle.working.specs.Part.{Work, Part, Begun, held, last_put, last_day, place_of, Filling, Fills, begun}
 use Rattle.working.specs.Paying.{Paid}
-use Rattle.working.specs.Turning.{Front, Knows, told, Learnt, Compared, Begins, Sized, Starts, Started, turn_on, Looped, walked, Walking}
+use Rattle.working.specs.Turning.{Front, Knows, told, Learnt, Compared, Begins, Sized, Starts, Started, turn_on, Looped, Walking}
 use Rattle.working.specs.Held.{newest_read, put_is_newest, put_dates, put_counts}
 use Rattle.working.proofs.Puts.{paid_none, paid_more, newest_first}
 
@@ -57,8 +56,9 @@ module _ (mask : ℕ) (closed : List ℕ) (convention : Convention) (day : ℕ) 
   pub front_none : Front mask closed convention 0 day
   front_none = record { known = λ h. absurd (h refl) }
 
-  pub front_found : (found : Dated) → dated found ≡ adjusted mask closed convention day → (a : Date) → found ≡ dated-is.Day a → Front mask closed convention a.day day
-  front_found found f a e = record { known = λ h. given_day found a _ f e }
+  pub front_found : (found : Result ℕ Refusal) → answered found ≡ adjusted mask closed convention day → (a : ℕ) → a ≡ result_unwrap_or found 0 → Front mask closed convention a day
+  front_found (Ok a) f b e = record { known = λ h. sym f ∙ ap given (sym e) }
+  front_found (Err k) f b e = record { known = λ h. absurd (h e) }
 
 -- of n dates the newest is paid, and so are those from it on
 module _ (A : ℕ → Answer ℕ) (back : Bool) {n : ℕ} {days paid : List ℕ} (s : Sized n days paid) where
@@ -110,71 +110,75 @@ going_start course mask closed convention room n w paid tip day at b s =
 
 module _ {course : Course} {mask : ℕ} {closed : List ℕ} {convention : Convention} {room start : ℕ} {o : Answer Walk} {w : Work} {paid : List ℕ} {n k : ℕ} {known : Known} (g : Going course mask closed convention room start o w paid n k known) where
   -- the candidates have been looked at
-  pub walk_out : SPAN_LAST < k → Walking mask closed convention course.back room o (Refused 2) w paid
-  unfolding walk walked
+  pub walk_out : SPAN_LAST < k → Walking mask closed convention course.back room o (Err Book) w paid
+  unfolding walk
   walk_out h =
       let a : suc SPAN_LAST - k ≡ 0 = omega arith in
       let s : refused BOOK ≡ o = rw a at g.same in
       refuses 2 s
 
-  module _ (few : k ≤ SPAN_LAST) (r : Turn) (turned : closed_ok closed ≡ true → Knows mask closed convention known → Compared mask closed convention known.newest (turn_on course mask closed convention known.newest k) r) where
+  -- a refusal that was handed on
+  stopped : (w' : Work) (paid' : List ℕ) (m : Refusal) → refused (number_of m) ≡ o → (r : Result Walked Refusal) → IsErr r × IsErrAnd r (λ k. k ≡ m) → Walking mask closed convention course.back room o r w' paid'
+  stopped w' paid' m e r h = rw (handed_on r m h) (refuses (number_of m) e)
+
+  module _ (few : k ≤ SPAN_LAST) (r : Result Turn Refusal) (turned : closed_ok closed ≡ true → Knows mask closed convention known → Compared mask closed convention known.newest (turn_on course mask closed convention known.newest k) r) where
     t : Compared mask closed convention known.newest (turn_on course mask closed convention known.newest k) r
     t = turned g.begun.calendar g.knows
 
-    opened : then (told r) (λ t. on_turn room t k (held course.back n w) (walk (turn_on course mask closed convention) room (suc SPAN_LAST - suc k) (suc k))) ≡ o
+    opened : then (seen told (answered r)) (λ t. on_turn room t k (held course.back n w) (walk (turn_on course mask closed convention) room (suc SPAN_LAST - suc k) (suc k))) ≡ o
     unfolding walk
     opened =
         let a : suc SPAN_LAST - k ≡ suc (suc SPAN_LAST - suc k) = omega arith in
         let s = rw (a, ← g.at) at g.same in
         rw t.says s
 
-    pub walk_stop : (m : ℕ) → r ≡ Stop m → Walking mask closed convention course.back room o (Refused m) w paid
-    unfolding told then walked
-    walk_stop m e = refuses m (rw e at opened)
+    pub walk_stop : (m : Refusal) → r ≡ Err m → (r' : Result Walked Refusal) → IsErr r' × IsErrAnd r' (λ j. j ≡ m) → Walking mask closed convention course.back room o r' w paid
+    unfolding seen then
+    walk_stop m e r' h = stopped w paid m (rw e at opened) r' h
 
-    pub walk_past : r ≡ Past → Walking mask closed convention course.back room o (Ready (record { n = n; start = start; front = known.front }) k) w paid
-    unfolding told then walked on_turn
-    walk_past e =
-        gives (record { n = n; start = start; front = known.front }, k) (rw e at opened)
+    pub walk_past : (t : Turn) → r ≡ Ok t → t ≡ Past → Walking mask closed convention course.back room o (Ok (record { tip = record { n = n; start = start; front = known.front }; tries = k })) w paid
+    unfolding told seen then on_turn
+    walk_past t q e =
+        gives (record { tip = record { n = n; start = start; front = known.front }; tries = k }) (rw (q, e) at opened)
         (record { ahead = record { begun = g.begun; front = rw g.at at g.knows.front }; pays = g.pays })
 
-    pub walk_skip : (next : Known) → r ≡ Skip next → Going course mask closed convention room start o w paid n (k + 1) next
-    unfolding told then on_turn Learnt
-    walk_skip next e =
-        let l : Learnt mask closed convention known.newest r = t.learnt in
-        let q : Knows mask closed convention next × (next.newest ≡ known.newest) = rw e at l in
-        record { begun = g.begun; at = q.1 ∙ g.at; knows = q.0; pays = g.pays; same = rw (add-one k) (rw e at opened) }
+    pub walk_skip : (turn : Turn) → r ≡ Ok turn → (next : Known) → turn ≡ Skip next → Going course mask closed convention room start o w paid n (k + 1) next
+    unfolding told seen Kept then on_turn Learnt
+    walk_skip turn was next e =
+        let l : Kept (Learnt mask closed convention known.newest) (answered r) = t.learnt in
+        let q : Knows mask closed convention next × (next.newest ≡ known.newest) = rw (was, e) at l in
+        record { begun = g.begun; at = q.1 ∙ g.at; knows = q.0; pays = g.pays; same = rw (add-one k) (rw (was, e) at opened) }
 
-    module _ (next : Known) (e : r ≡ Keep next) (f : Filled) (w' : Work) (filled-so : Fills (Part room) course.back room (put room next.newest 1) n w f w') where
+    module _ (turn : Turn) (was : r ≡ Ok turn) (next : Known) (e : turn ≡ Keep next) (f : Result ℕ Refusal) (w' : Work) (filled-so : Fills (Part room) course.back room (put room next.newest 1) n w f w') where
       p : Filling course.back room (put room next.newest 1 (held course.back n w)) f w'
       p = filled-so.run g.begun.part
 
-      kept : then (seen (λ (m : ℕ). held course.back m w') (filled f)) (walk (turn_on course mask closed convention) room (suc SPAN_LAST - suc k) (suc k)) ≡ o
-      unfolding told then on_turn
-      kept = rw p.says (rw e at opened)
+      kept : then (seen (λ (m : ℕ). held course.back m w') (answered f)) (walk (turn_on course mask closed convention) room (suc SPAN_LAST - suc k) (suc k)) ≡ o
+      unfolding told seen then on_turn
+      kept = rw p.says (rw (was, e) at opened)
 
-      pub walk_full : (m : ℕ) → f ≡ Filled-is.Refused m → (paid' : List ℕ) → Walking mask closed convention course.back room o (Refused m) w' paid'
-      unfolding filled seen then walked
-      walk_full m q paid' = refuses m (rw q at kept)
+      pub walk_full : (m : Refusal) → f ≡ Err m → (paid' : List ℕ) (r' : Result Walked Refusal) → IsErr r' × IsErrAnd r' (λ j. j ≡ m) → Walking mask closed convention course.back room o r' w' paid'
+      unfolding seen then
+      walk_full m q paid' r' h = stopped w' paid' m (rw q at kept) r' h
 
-      put_newest : (m : ℕ) → f ≡ Filled-is.Ready m → newest (held course.back m w') ≡ next.newest
-      unfolding filled seen
+      put_newest : (m : ℕ) → f ≡ Ok m → newest (held course.back m w') ≡ next.newest
+      unfolding seen
       put_newest m q = put_is_newest room next.newest 1 (held course.back n w) (held course.back m w') (rw q at p.says)
 
-      counted : (m : ℕ) → f ≡ Filled-is.Ready m → m ≡ n + 1
-      unfolding filled seen
+      counted : (m : ℕ) → f ≡ Ok m → m ≡ n + 1
+      unfolding seen
       counted m q = put_counts course.back g.begun.part (was_kept p m (rw q)).part next.newest 1 (rw q at p.says)
 
-      put_days : (m : ℕ) → f ≡ Filled-is.Ready m → last_put course.back m w'.days ≡ next.newest ∷ last_put course.back n w.days
-      unfolding filled seen held
+      put_days : (m : ℕ) → f ≡ Ok m → last_put course.back m w'.days ≡ next.newest ∷ last_put course.back n w.days
+      unfolding seen held
       put_days m q = put_dates room next.newest 1 (held course.back n w) (held course.back m w') (rw q at p.says)
 
-      pub walk_keep : (m : ℕ) → f ≡ Filled-is.Ready m → (paid' : List ℕ) → (length paid ≡ 4096 → n < 4096 → paid' ≡ set paid (place_of course.back n) next.front) → Going course mask closed convention room start o w' paid' m (k + 1) next
-      unfolding filled seen then Learnt
+      pub walk_keep : (m : ℕ) → f ≡ Ok m → (paid' : List ℕ) → (length paid ≡ 4096 → n < 4096 → paid' ≡ set paid (place_of course.back n) next.front) → Going course mask closed convention room start o w' paid' m (k + 1) next
+      unfolding seen Kept then Learnt
       walk_keep m q paid' set_so =
-          let l : Learnt mask closed convention known.newest r = t.learnt in
-          let z : Knows mask closed convention next × (adjusted mask closed convention next.newest ≡ given next.front) = rw e at l in
-          let h : filled f ≡ given m = rw q in
+          let l : Kept (Learnt mask closed convention known.newest) (answered r) = t.learnt in
+          let z : Knows mask closed convention next × (adjusted mask closed convention next.newest ≡ given next.front) = rw (was, e) at l in
+          let h : answered f ≡ given m = rw q in
           let part = (was_kept p m h).part in
           let few : n < 4096 = omega (arith, counted m q, part) in
           record {
@@ -187,6 +191,11 @@ module _ {course : Course} {mask : ℕ} {closed : List ℕ} {convention : Conven
           }
 
 -- ---- two conventions that adjust every day alike walk alike
+-- the promise of the loop, of an answer
+abbrev Ends : (mask : ℕ) (closed : List ℕ) (convention : Convention) (back : Bool) (room : ℕ) (o : Answer Walk) (r : Answer Walked) (w : Work) (paid : List ℕ) → Type 0
+Ends mask closed convention back room o r w paid =
+    Gives (λ t. record { lists = held back t.tip.n w; tries = t.tries }) (λ t. Looped mask closed convention back room w paid t.tip) o r
+
 module _ (mask : ℕ) (closed : List ℕ) (a b : Convention) (e : adjusted mask closed a ≡ adjusted mask closed b) where
   past_alike : (t : Bool) (last day : ℕ) → unless_past t mask closed a last day ≡ unless_past t mask closed b last day
   unfolding unless_past
@@ -210,10 +219,10 @@ module _ (mask : ℕ) (closed : List ℕ) (a b : Convention) (e : adjusted mask 
         pays = subst (λ (g : ℕ → Answer ℕ). Paid g back tip.start tip.n w.days paid) e s.pays;
       }
 
-  walk_alike : (course : Course) (room fuel k : ℕ) (l : Lists) (r : Walked) (w : Work) (paid : List ℕ) → Walking mask closed a course.back room (walk (turn_on course mask closed a) room fuel k l) r w paid → Walking mask closed b course.back room (walk (turn_on course mask closed b) room fuel k l) r w paid
+  walk_alike : (course : Course) (room fuel k : ℕ) (l : Lists) (r : Answer Walked) (w : Work) (paid : List ℕ) → Ends mask closed a course.back room (walk (turn_on course mask closed a) room fuel k l) r w paid → Ends mask closed b course.back room (walk (turn_on course mask closed b) room fuel k l) r w paid
   walk_alike course room fuel k l r w paid g =
       gives_as (ap (λ (f : ℕ → ℕ → Answer steps.Turn). walk f room fuel k l) (turn_alike course))
-      (gives_less (λ t s. looped_alike course.back room w paid t.0 s) g)
+      (gives_less (λ t s. looped_alike course.back room w paid t.tip s) g)
 
   -- and what a date adjusts to by the one is what it adjusts to by the other
   starts_alike : {room : ℕ} {begin : Begin} {w : Work} {paid : List ℕ} → Begins (adjusted mask closed b) closed room begin w paid → Starts (adjusted mask closed a) begin w.days paid
@@ -225,7 +234,7 @@ module _ (mask : ℕ) (closed : List ℕ) (a b : Convention) (e : adjusted mask 
         sure = subst (λ (g : ℕ → Answer ℕ). Surely g begin.sure) (sym e) s.sure;
       }
 
-  pub walk_from : (course : Course) (room fuel k : ℕ) {begin : Begin} {w : Work} {paid : List ℕ} → Begins (adjusted mask closed b) closed room begin w paid → (paid₁ : List ℕ) (tip : Tip) → (closed_ok closed ≡ true → Starts (adjusted mask closed a) begin w.days paid → Started mask closed a course.back begin.n w.days paid₁ tip) → (r : Walked) (w' : Work) (paid' : List ℕ) → (Begun closed room begin.n w → Started mask closed a course.back begin.n w.days paid₁ tip → Walking mask closed a course.back room (walk (turn_on course mask closed a) room fuel k (held course.back begin.n w)) r w' paid') → Walking mask closed b course.back room (walk (turn_on course mask closed b) room fuel k (held course.back begin.n w)) r w' paid'
+  pub walk_from : (course : Course) (room fuel k : ℕ) {begin : Begin} {w : Work} {paid : List ℕ} → Begins (adjusted mask closed b) closed room begin w paid → (paid₁ : List ℕ) (tip : Tip) → (closed_ok closed ≡ true → Starts (adjusted mask closed a) begin w.days paid → Started mask closed a course.back begin.n w.days paid₁ tip) → (r : Answer Walked) (w' : Work) (paid' : List ℕ) → (Begun closed room begin.n w → Started mask closed a course.back begin.n w.days paid₁ tip → Ends mask closed a course.back room (walk (turn_on course mask closed a) room fuel k (held course.back begin.n w)) r w' paid') → Ends mask closed b course.back room (walk (turn_on course mask closed b) room fuel k (held course.back begin.n w)) r w' paid'
   walk_from course room fuel k s paid₁ tip started r w' paid' g =
       walk_alike course room fuel k _ r w' paid' (g s.begun (started s.begun.calendar (starts_alike s)))
 

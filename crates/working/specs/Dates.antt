@@ -1,21 +1,22 @@
 -- A step that asks for a day: a refusal stops, and the day is handed on.
 -- Assumes nothing.
-use Rattle.std.specs.Prelude.{ℕ, ◌≡◌, refl}
-use Rattle.refusal.specs.Answer.{Answer, given, refused, then}
-use Rattle.date.specs.declared.Date.{Date}
-use Rattle.date.specs.declared.Dated.{Dated}
-use Rattle.date.specs.declared.Dated.TheVariants.{Day, Refused}
-use Rattle.date.specs.Date.{dated}
-use Rattle.date.specs.Laws.Made.{given_day, refused_day}
+use Rattle.std.specs.Prelude.{ℕ, ◌≡◌, refl, Result, Ok, Err, IsErr, IsErrAnd}
+use Rattle.refusal.specs.declared.Refusal.{Refusal}
+use Rattle.refusal.specs.Refusals.{number_of}
+use Rattle.refusal.specs.Answer.{Answer, given, refused, answered, then}
+use Rattle.refusal.specs.Laws.Answers.{then_given, then_refused, was_given, was_refused, handed_on}
 use Rattle.working.specs.Step.{Gives, gives_as, refuses}
-use Rattle.refusal.specs.Laws.Answers.{then_given, then_refused}
 
-module _ {D B : Type 0} {view : D → B} {Keeps : D → Type 0} {r : Answer D} (o : Answer ℕ) (f : ℕ → Answer B) (d : Dated) where
-  pub dated_stops : (k : ℕ) → dated d ≡ o → d ≡ Refused k → r ≡ refused k → Gives view Keeps (then o f) r
-  dated_stops k s e h = rw h (refuses k (then_refused o k f (refused_day d k o s e)))
+module _ {D B : Type 0} {view : D → B} {Keeps : D → Type 0} (o : Answer ℕ) (f : ℕ → Answer B) (d : Result ℕ Refusal) where
+  pub dated_refuses : (k : Refusal) → answered d ≡ o → d ≡ Err k → {r : Answer D} → r ≡ refused (number_of k) → Gives view Keeps (then o f) r
+  dated_refuses k s e h = rw h (refuses (number_of k) (then_refused o (number_of k) f (was_refused d k o s e)))
 
-  pub dated_on : (x : Date) → dated d ≡ o → d ≡ Day x → Gives view Keeps (f x.day) r → Gives view Keeps (then o f) r
-  dated_on x s e g = gives_as (then_given o x.day f _ (given_day d x o s e) refl) g
+  -- as `?` hands it on
+  pub dated_stops : (k : Refusal) → answered d ≡ o → d ≡ Err k → (r : Result D Refusal) → IsErr r × IsErrAnd r (λ j. j ≡ k) → Gives view Keeps (then o f) (answered r)
+  dated_stops k s e r h = dated_refuses k s e (handed_on r k h)
+
+  pub dated_on : (x y : ℕ) → answered d ≡ o → d ≡ Ok x → y ≡ x → {r : Answer D} → Gives view Keeps (f y) r → Gives view Keeps (then o f) r
+  dated_on x y s e t g = gives_as (then_given o y f _ (rw t (was_given d x o s e)) refl) g
 
 -- three steps in a row, however they are bracketed
 pub regrouped : {A B C D : Type 0} {view : D → C} {Keeps : D → Type 0} {r : Answer D} (o : Answer A) (f : A → Answer B) (g : B → Answer C) → Gives view Keeps (then o (λ a. then (f a) g)) r → Gives view Keeps (then (then o f) g) r

@@ -1,9 +1,10 @@
 -- What generating needs of the input checks, and what it answers.
 -- Assumes nothing.
-use Rattle.std.specs.Prelude.{ℕ, ◌+◌, ◌-◌, ◌≤◌, ◌≡◌, refl, true, false, List, ◌++◌, reverse, nat_abs, length, take, drop}
+use Rattle.std.specs.Prelude.{ℕ, ◌+◌, ◌-◌, ◌≤◌, ◌≡◌, refl, true, false, List, ◌++◌, reverse, nat_abs, length, take, drop, Result}
 use Rattle.std.proofs.Common.{arith, sym, ap, ◌∙◌, length-drop, length-append, take_all, take_at, take-add, take-take, drop_at, length-take-le}
 use Rattle.std.proofs.lemmas.List.{reverse-append, reverse-reverse, drop-append-le}
-use Rattle.refusal.specs.Answer.{Answer, given, refused}
+use Rattle.refusal.specs.declared.Refusal.{Refusal}
+use Rattle.refusal.specs.Answer.{Answer, given, answered}
 use Rattle.calendar.specs.Open.{closed_ok}
 use Rattle.calendar.specs.Calendar.{tenor_ok}
 use Rattle.calendar.specs.Adjust.{adjusted}
@@ -17,8 +18,6 @@ use Rattle.working.specs.Part.{Work, Part, Placed, held, last_put}
 use Rattle.working.specs.Held.{put_length}
 use Rattle.working.specs.Paying.{Paid, PaidSo}
 use Rattle.working.specs.declared.Piece.{Piece}
-use Rattle.working.specs.declared.Generated.{Generated}
-use Rattle.working.specs.declared.Generated.TheVariants.{Ready, Refused}
 
 -- what the input checks have shown that generating rests on
 pub record Checked (q : Request) (closed : List ℕ) : Type 0 where
@@ -30,10 +29,6 @@ pub record Blank (q : Request) (closed : List ℕ) (room : ℕ) (w : Work) (paid
   pub checked : Checked q closed
   pub part : Part room 0 w
   pub paid_size : length paid ≡ 4096
-
-unfoldable pub generated : Generated → Answer Piece
-generated (Ready piece) = given piece
-generated (Refused k) = refused k
 
 -- n dates from a place on, and the flags between them from a place of their own on
 unfoldable pub piece : Work → Piece → Made
@@ -57,16 +52,12 @@ pub record Laid (q : Request) (closed : List ℕ) (room : ℕ) (w : Work) (paid 
   pub pays : Pays (adjusted q.mask closed q.convention) w paid p
   pub sure : Surely (adjusted q.mask closed q.terminal) p.last
 
-abbrev pub Generates : (q : Request) (closed : List ℕ) (room : ℕ) (o : Answer Made) (r : Generated) (w : Work) (paid : List ℕ) → Type 0
-Generates q closed room o r w paid = Gives (piece w) (Laid q closed room w paid) o (generated r)
+abbrev pub Generates : (q : Request) (closed : List ℕ) (room : ℕ) (o : Answer Made) (r : Result Piece Refusal) (w : Work) (paid : List ℕ) → Type 0
+Generates q closed room o r w paid = Gives (piece w) (Laid q closed room w paid) o (answered r)
 
 -- the promise of what is generated under a premise
-abbrev pub Makes : (Premise : Type 0) (q : Request) (closed : List ℕ) (room : ℕ) (o : Answer Made) (r : Generated) (w : Work) (paid : List ℕ) → Type 0
-Makes Premise q closed room o r w paid = Step Premise (piece w) (Laid q closed room w paid) o (generated r)
-
-pub generated_is_refused : (k : ℕ) → generated (Refused k) ≡ refused k
-unfolding generated
-generated_is_refused k = refl
+abbrev pub Makes : (Premise : Type 0) (q : Request) (closed : List ℕ) (room : ℕ) (o : Answer Made) (r : Result Piece Refusal) (w : Work) (paid : List ℕ) → Type 0
+Makes Premise q closed room o r w paid = Step Premise (piece w) (Laid q closed room w paid) o (answered r)
 
 -- what stands by itself, with none paid and nothing known of the last
 pub record Unpaid (room : ℕ) (w : Work) (p : Piece) : Type 0 where
@@ -74,8 +65,8 @@ pub record Unpaid (room : ℕ) (w : Work) (p : Piece) : Type 0 where
   pub none : p.known ≡ p.beyond
   pub last : p.last.paid ≡ 0
 
-abbrev pub Zeroed : (room : ℕ) (o : Answer Made) (r : Generated) (w : Work) → Type 0
-Zeroed room o r w = Gives (piece w) (Unpaid room w) o (generated r)
+abbrev pub Zeroed : (room : ℕ) (o : Answer Made) (r : Result Piece Refusal) (w : Work) → Type 0
+Zeroed room o r w = Gives (piece w) (Unpaid room w) o (answered r)
 
 -- n dates at the far end of the working lists, of which those up to a place are paid
 abbrev pub at_end : (n from beyond tries seed : ℕ) → Piece
@@ -83,8 +74,8 @@ at_end n from beyond tries seed =
     record { from = from; marked = from; n = n; known = 0; beyond = beyond; tries = tries; seed = seed; last = unsure }
 
 -- what fills the working lists from the far end on
-pub back_made : {room n : ℕ} {w : Work} {Keeps : Piece → Type 0} (tries seed from beyond : ℕ) → Placed room n w → from ≡ 4096 - n → ((p : Piece) → p ≡ at_end n from beyond tries seed → Lies room p → Keeps p) → Gives (piece w) Keeps (given (made_back tries seed (held true n w))) (generated (Ready (at_end n from beyond tries seed)))
-unfolding generated piece held last_put
+pub back_made : {room n : ℕ} {w : Work} {Keeps : Piece → Type 0} (tries seed from beyond : ℕ) → Placed room n w → from ≡ 4096 - n → ((p : Piece) → p ≡ at_end n from beyond tries seed → Lies room p → Keeps p) → Gives (piece w) Keeps (given (made_back tries seed (held true n w))) (given (at_end n from beyond tries seed))
+unfolding piece held last_put
 back_made {n = n} {w = w} tries seed from beyond p at keeps =
     let t = p.part in
     let l : length (drop (4096 - n) w.days) ≡ n = put_length true w.days n t.work_size (omega (arith, t)) in
@@ -93,7 +84,7 @@ back_made {n = n} {w = w} tries seed from beyond p at keeps =
     (keeps _ refl (record { some = omega (arith, p); fits = t.fits; dates_end = omega (arith, t, at); flags_end = omega (arith, t, at) }))
 
 -- of a backward build those from the start on are paid
-pub back_laid : (q : Request) (closed : List ℕ) {room n start : ℕ} {w : Work} {paid : List ℕ} (tries seed from beyond : ℕ) → Placed room n w → Paid (adjusted q.mask closed q.convention) true start n w.days paid → from ≡ 4096 - n → beyond ≡ n - start → Gives (piece w) (Laid q closed room w paid) (given (made_back tries seed (held true n w))) (generated (Ready (at_end n from beyond tries seed)))
+pub back_laid : (q : Request) (closed : List ℕ) {room n start : ℕ} {w : Work} {paid : List ℕ} (tries seed from beyond : ℕ) → Placed room n w → Paid (adjusted q.mask closed q.convention) true start n w.days paid → from ≡ 4096 - n → beyond ≡ n - start → Gives (piece w) (Laid q closed room w paid) (given (made_back tries seed (held true n w))) (given (at_end n from beyond tries seed))
 unfolding PaidSo last_put
 back_laid q closed {n = n} {start = start} {w = w} {paid = paid} tries seed from beyond p r at b =
     let t = p.part in
@@ -137,6 +128,6 @@ unpaid_laid q closed w paid size g =
     gives_less (λ c u. let z : c.beyond - c.known ≡ 0 = omega (arith, u.none) in record { lies = u.lies; pays = record { size = size; so = rw z refl }; sure = record { so = λ h. absurd (h u.last) } }) g
 
 -- what fills the lists from the far end on by itself
-pub back_unpaid : {room n : ℕ} {w : Work} (tries seed : ℕ) → Placed room n w → Gives (piece w) (Unpaid room w) (given (made_back tries seed (held true n w))) (generated (Ready (at_end n (4096 - n) 0 tries seed)))
+pub back_unpaid : {room n : ℕ} {w : Work} (tries seed : ℕ) → Placed room n w → Gives (piece w) (Unpaid room w) (given (made_back tries seed (held true n w))) (given (at_end n (4096 - n) 0 tries seed))
 back_unpaid {n = n} tries seed p =
     back_made tries seed (4096 - n) 0 p refl (λ c e l. record { lies = l; none = rw e refl; last = rw e refl })

@@ -1,12 +1,11 @@
 -- What stands in the working lists: a backward build fills them from the far end, any other from the near end.
 -- Assumes nothing.
-use Rattle.std.specs.Prelude.{ℕ, ◌-◌, ◌≤◌, ◌<◌, ◌≡◌, refl, Bool, true, false, ◌&&◌, List, reverse, eqb, ltb, length, get_or, take, drop}
-use Rattle.refusal.specs.Answer.{Answer, given, refused, then}
+use Rattle.std.specs.Prelude.{ℕ, ◌-◌, ◌≤◌, ◌<◌, ◌≡◌, refl, Bool, true, false, ◌&&◌, List, reverse, eqb, ltb, length, get_or, take, drop, Result, Ok}
+use Rattle.refusal.specs.declared.Refusal.{Refusal}
+use Rattle.refusal.specs.Answer.{Answer, given, answered}
 use Rattle.calendar.specs.Open.{closed_ok}
 use Rattle.steps.specs.Generate.{Lists}
-use Rattle.working.specs.Step.{Gives, Step, does, gives, stops, goes_on, was_kept}
-use Rattle.working.specs.declared.Filled.{Filled}
-use Rattle.working.specs.declared.Filled.TheVariants.{Ready, Refused}
+use Rattle.working.specs.Step.{Gives, Step, does, gives, step_stops, step_on}
 
 -- the working lists
 pub record Work : Type 0 where
@@ -61,40 +60,17 @@ pub record Begun (closed : List ℕ) (room n : ℕ) (w : Work) : Type 0 where
   pub some : 0 < n
   pub part : Part room n w
 
--- how many dates a step leaves
-unfoldable pub filled : Filled → Answer ℕ
-filled (Ready n) = given n
-filled (Refused k) = refused k
-
-abbrev pub Filling : Bool → ℕ → Answer Lists → Filled → Work → Type 0
-Filling back room o r w = Gives (λ n. held back n w) (λ n. Placed room n w) o (filled r)
+-- what a step that puts a date answers: how many dates there are then
+abbrev pub Filling : Bool → ℕ → Answer Lists → Result ℕ Refusal → Work → Type 0
+Filling back room o r w = Gives (λ n. held back n w) (λ n. Placed room n w) o (answered r)
 
 -- the promise of a step that takes lists of n dates on: under its premise it leaves what the definition makes of them
-abbrev pub Fills : (Premise : ℕ → Work → Type 0) (back : Bool) (room : ℕ) (does : Lists → Answer Lists) (n : ℕ) (w : Work) (r : Filled) (w' : Work) → Type 0
+abbrev pub Fills : (Premise : ℕ → Work → Type 0) (back : Bool) (room : ℕ) (does : Lists → Answer Lists) (n : ℕ) (w : Work) (r : Result ℕ Refusal) (w' : Work) → Type 0
 Fills Premise back room does n w r w' =
-    Step (Premise n w) (λ m. held back m w') (λ m. Placed room m w') (does (held back n w)) (filled r)
+    Step (Premise n w) (λ m. held back m w') (λ m. Placed room m w') (does (held back n w)) (answered r)
 
 -- ---- after such a step
-module _ {A P : Type 0} {view : ℕ → A} {Keeps : ℕ → Type 0} {o : Answer A} (r : Filled) (s : Step P view Keeps o (filled r)) where
-  pub filled_kept : (n : ℕ) → r ≡ Ready n → P → Keeps n
-  unfolding filled
-  filled_kept n e p = was_kept (s.run p) n (rw e)
-
-module _ {A D B P : Type 0} {view : ℕ → A} {Keeps : ℕ → Type 0} {view' : D → B} {Keeps' : D → Type 0} {o : Answer A} (f : A → Answer B) (r : Filled) {r' : Answer D} (s : Step P view Keeps o (filled r)) where
-  pub filled_stops : (k : ℕ) → r ≡ Refused k → P → r' ≡ refused k → Gives view' Keeps' (then o f) r'
-  unfolding filled
-  filled_stops k e p e' = stops f (s.run p) k (rw e) e'
-
-  pub filled_on : (n : ℕ) → r ≡ Ready n → P → (Keeps n → Gives view' Keeps' (f (view n)) r') → Gives view' Keeps' (then o f) r'
-  unfolding filled
-  filled_on n e p h = goes_on f (s.run p) n (rw e) h
-
-pub filled_is_refused : (k : ℕ) → filled (Refused k) ≡ refused k
-unfolding filled
-filled_is_refused k = refl
-
-pub filled_ready : {room n : ℕ} {w : Work} (back : Bool) → Placed room n w → Filling back room (given (held back n w)) (Ready n) w
-unfolding filled
+pub filled_ready : {room n : ℕ} {w : Work} (back : Bool) → Placed room n w → Filling back room (given (held back n w)) (Ok n) w
 filled_ready {n = n} back p = gives n refl p
 
 pub placed_part : {room n : ℕ} {w : Work} → Placed room n w → Part room n w
@@ -106,4 +82,4 @@ begun ok p = record { calendar = ok; some = p.some; part = p.part }
 pub begun_placed : {closed : List ℕ} {room n : ℕ} {w : Work} → Begun closed room n w → Placed room n w
 begun_placed b = record { part = b.part; some = b.some }
 
-pub ruleset fills = (does, filled_stops, filled_on, filled_is_refused, placed_part, begun, begun_placed)
+pub ruleset fills = (does, step_stops, step_on, placed_part, begun, begun_placed)

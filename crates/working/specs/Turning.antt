@@ -1,7 +1,8 @@
 -- What the functions of the loop over the candidates answer and keep.
 -- Assumes nothing.
-use Rattle.std.specs.Prelude.{ℕ, ◌≤◌, ◌<◌, length, ◌≡◌, Bool, List}
-use Rattle.refusal.specs.Answer.{Answer, given, refused, then}
+use Rattle.std.specs.Prelude.{ℕ, ◌≤◌, ◌<◌, length, ◌≡◌, Bool, List, Result}
+use Rattle.refusal.specs.declared.Refusal.{Refusal}
+use Rattle.refusal.specs.Answer.{Answer, given, answered}
 use Rattle.calendar.specs.declared.Convention.{Convention}
 use Rattle.calendar.specs.Adjust.{adjusted}
 use Rattle.calendar.specs.Inner.Near.{OneMonth}
@@ -9,12 +10,11 @@ use Rattle.steps.specs.Candidates as steps
 use Rattle.steps.specs.Inner.Sure.{Surely}
 use Rattle.steps.specs.Generate.{Lists, Walk, newest}
 use Rattle.working.specs.declared.candidates.Turn.{Turn}
-use Rattle.working.specs.declared.candidates.Turn.TheVariants.{Past, Skip, Keep, Stop}
+use Rattle.working.specs.declared.candidates.Turn.TheVariants.{Past, Skip, Keep}
 use Rattle.working.specs.declared.walks.Walked.{Walked}
-use Rattle.working.specs.declared.walks.Walked.TheVariants.{Ready, Refused}
 use Rattle.working.specs.declared.Begin.{Begin}
 use Rattle.working.specs.declared.Tip.{Tip}
-use Rattle.working.specs.Step.{Gives, Step, stops, goes_on}
+use Rattle.working.specs.Step.{Gives, Step, seen, Kept}
 use Rattle.working.specs.declared.Course.{Course}
 use Rattle.working.specs.declared.candidates.Known.{Known}
 use Rattle.working.specs.Part.{Work, Begun, held, last_day}
@@ -30,22 +30,20 @@ pub record Knows (mask : ℕ) (closed : List ℕ) (convention : Convention) (kno
   pub month : OneMonth known.near.from known.near.to
 
 -- ---- a turn
-unfoldable pub told : Turn → Answer steps.Turn
-told Past = given steps.past
-told (Skip next) = given steps.skip
-told (Keep next) = given (steps.keep next.newest)
-told (Stop n) = refused n
+unfoldable pub told : Turn → steps.Turn
+told Past = steps.past
+told (Skip next) = steps.skip
+told (Keep next) = steps.keep next.newest
 
 -- what is known then; the newest date is the same where the candidate was skipped, and its adjusted date is known where it was kept
 unfoldable pub Learnt : ℕ → List ℕ → Convention → ℕ → Turn → Type 0
 Learnt mask closed convention newest Past = Unit {0}
 Learnt mask closed convention newest (Skip next) = Knows mask closed convention next × (next.newest ≡ newest)
 Learnt mask closed convention newest (Keep next) = Knows mask closed convention next × (adjusted mask closed convention next.newest ≡ given next.front)
-Learnt mask closed convention newest (Stop n) = Unit {0}
 
-pub record Compared (mask : ℕ) (closed : List ℕ) (convention : Convention) (newest : ℕ) (o : Answer steps.Turn) (r : Turn) : Type 0 where
-  pub says : told r ≡ o
-  pub learnt : Learnt mask closed convention newest r
+pub record Compared (mask : ℕ) (closed : List ℕ) (convention : Convention) (newest : ℕ) (o : Answer steps.Turn) (r : Result Turn Refusal) : Type 0 where
+  pub says : seen told (answered r) ≡ o
+  pub learnt : Kept (Learnt mask closed convention newest) (answered r)
 
 -- a turn of the candidates of a course
 abbrev pub turn_on : Course → ℕ → List ℕ → Convention → ℕ → ℕ → Answer steps.Turn
@@ -79,32 +77,16 @@ pub record Started (mask : ℕ) (closed : List ℕ) (convention : Convention) (b
   pub pays : Paid (adjusted mask closed convention) back tip.start n days paid
 
 -- ---- the walk
-unfoldable pub walked : Walked → Answer (Tip × ℕ)
-walked (Ready tip tries) = given (tip, tries)
-walked (Refused k) = refused k
-
 -- the lists stand, the front is known, and the dates from the start on are paid
 pub record Looped (mask : ℕ) (closed : List ℕ) (convention : Convention) (back : Bool) (room : ℕ) (w : Work) (paid : List ℕ) (tip : Tip) : Type 0 where
   pub ahead : Ahead mask closed convention back room w tip
   pub pays : Paid (adjusted mask closed convention) back tip.start tip.n w.days paid
 
-abbrev pub Walking : (mask : ℕ) (closed : List ℕ) (convention : Convention) (back : Bool) (room : ℕ) (o : Answer Walk) (r : Walked) (w : Work) (paid : List ℕ) → Type 0
+abbrev pub Walking : (mask : ℕ) (closed : List ℕ) (convention : Convention) (back : Bool) (room : ℕ) (o : Answer Walk) (r : Result Walked Refusal) (w : Work) (paid : List ℕ) → Type 0
 Walking mask closed convention back room o r w paid =
-    Gives (λ t. record { lists = held back t.0.n w; tries = t.1 }) (λ t. Looped mask closed convention back room w paid t.0) o (walked r)
+    Gives (λ t. record { lists = held back t.tip.n w; tries = t.tries }) (λ t. Looped mask closed convention back room w paid t.tip) o (answered r)
 
 -- the promise of the loop on lists of some dates
-abbrev pub Walks : (mask : ℕ) (closed : List ℕ) (convention : Convention) (back : Bool) (room : ℕ) (does : Lists → Answer Walk) (begin : Begin) (w : Work) (paid : List ℕ) (r : Walked) (w' : Work) (paid' : List ℕ) → Type 0
+abbrev pub Walks : (mask : ℕ) (closed : List ℕ) (convention : Convention) (back : Bool) (room : ℕ) (does : Lists → Answer Walk) (begin : Begin) (w : Work) (paid : List ℕ) (r : Result Walked Refusal) (w' : Work) (paid' : List ℕ) → Type 0
 Walks mask closed convention back room does begin w paid r w' paid' =
-    Step (Begins (adjusted mask closed convention) closed room begin w paid) (λ t. record { lists = held back t.0.n w'; tries = t.1 }) (λ t. Looped mask closed convention back room w' paid' t.0) (does (held back begin.n w)) (walked r)
-
--- ---- after the loop
-module _ {A D B P : Type 0} {view : Tip × ℕ → A} {Keeps : Tip × ℕ → Type 0} {view' : D → B} {Keeps' : D → Type 0} {o : Answer A} (f : A → Answer B) (r : Walked) {r' : Answer D} (s : Step P view Keeps o (walked r)) where
-  pub walked_stops : (k : ℕ) → r ≡ Refused k → P → r' ≡ refused k → Gives view' Keeps' (then o f) r'
-  unfolding walked
-  walked_stops k e p e' = stops f (s.run p) k (rw e) e'
-
-  pub walked_on : (tip : Tip) (tries : ℕ) → r ≡ Ready tip tries → P → (Keeps (tip, tries) → Gives view' Keeps' (f (view (tip, tries))) r') → Gives view' Keeps' (then o f) r'
-  unfolding walked
-  walked_on tip tries e p h = goes_on f (s.run p) (tip, tries) (rw e) h
-
-pub ruleset walks = (walked_stops, walked_on)
+    Step (Begins (adjusted mask closed convention) closed room begin w paid) (λ t. record { lists = held back t.tip.n w'; tries = t.tries }) (λ t. Looped mask closed convention back room w' paid' t.tip) (does (held back begin.n w)) (answered r)

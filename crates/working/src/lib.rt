@@ -2,7 +2,13 @@
 // as a build makes them, each function answers something; what it promises holds under the premises that it names.
 #![tactic(auto)]
 
-use calendar::Convention;
+ghost use Rattle.std.specs.Prelude.{◌≡◌, true};
+ghost use Rattle.refusal.specs.Answer.{answered};
+ghost use Rattle.calendar.specs.Open.{closed_ok};
+ghost use Rattle.calendar.specs.Adjust.{adjusted};
+
+use calendar::{Convention, moves, search};
+use refusal::Refusal;
 use steps::{Pace, Seed, Sure};
 
 // The working lists: dates and marks are put into them.
@@ -21,7 +27,18 @@ pub struct Adjusting {
     pub mask: u8,
 }
 
-// The candidates that a loop looks at: whole tenors back or on from a seed, up to an exit date.
+impl Adjusting {
+    // The number of the day that a day adjusts to.
+    pub fn adjusted(self, day: u32, closed: &[u32]) -> Result<u32, Refusal>
+        ensures { closed_ok closed.now ≡ true → answered result ≡ adjusted self.mask closed.now self.convention day }
+    {
+        let found = moves::date_of(search::adjust(day, self.convention, self.mask, closed))?;
+        Ok(found.day)
+    }
+}
+
+// The candidates that a loop looks at: whole tenors back or on from a seed, up to an exit date. Backward and forward builds each write
+// theirs out: a function that made either would take as many parameters as there are fields.
 #[derive(Clone, Copy)]
 pub struct Course {
     pub back: bool,
@@ -38,7 +55,7 @@ pub struct Begin {
 }
 
 // How many dates there are, from which on each has its paid date beside it, and the newest date's adjusted date where it is known,
-// else 0.
+// else 0: document 01's empty date, so that no Option says it twice.
 #[derive(Clone, Copy)]
 pub struct Tip {
     pub n: usize,
@@ -51,13 +68,6 @@ pub struct Tip {
 pub struct Round {
     pub tries: u32,
     pub seed: u32,
-}
-
-// How many dates there are after a date was put, or why it was not.
-#[derive(Clone, Copy)]
-pub enum Filled {
-    Ready(usize),
-    Refused(u8),
 }
 
 // A part of the working lists: n dates from a place on, and the flags between them from another place on; with the tries and the seed.
@@ -73,11 +83,4 @@ pub struct Piece {
     pub tries: u32,
     pub seed: u32,
     pub last: Sure,
-}
-
-// What has been generated.
-#[derive(Clone, Copy)]
-pub enum Generated {
-    Ready(Piece),
-    Refused(u8),
 }

@@ -5,29 +5,22 @@ ghost use Rattle.refusal.specs.Answer.{then};
 ghost use Rattle.steps.specs.Generate.{nothing, put};
 ghost use Rattle.working.specs.Part.{working, Part, last_day, has_place, place_of, Fills};
 
-use crate::Filled;
+use refusal::Refusal;
 
 // Whether lists of these lengths have their 4,096 places, and one of them is left when n dates are there.
+#[tactic(auto, unfolding(crate::specs::Part::has_place))]
 fn has_place(n: usize, dates: usize, marks: usize) -> bool
     ensures { result ≡ has_place n dates marks }
 {
-    if n < 4096 {
-        return dates == 4096 && marks == 4096;
-    }
-    false
+    n < 4096 && (dates == 4096 && marks == 4096)
 }
 
+// The lists are slices here and no arrays of 4,096: laws of `Part` name their lengths, and say what is answered of any others.
 // Whether lists of these lengths have their 4,096 places: tested once before a loop, so that no turn of it tests a length.
 pub(crate) fn are_whole(dates: usize, paid: usize, marks: usize) -> bool
     ensures { result ≡ (eqb dates 4096 && (eqb paid 4096 && eqb marks 4096)) }
 {
-    if dates != 4096 {
-        return false;
-    }
-    if paid != 4096 {
-        return false;
-    }
-    marks == 4096
+    dates == 4096 && (paid == 4096 && marks == 4096)
 }
 
 // Where the next date goes when n are there.
@@ -42,7 +35,7 @@ fn place_of(back: bool, n: usize) -> usize
 pub fn surplus(a: usize, b: usize) -> usize
     ensures { result ≡ a - b }
 {
-    if a < b { 0 } else { a - b }
+    a.saturating_sub(b)
 }
 
 // The date that was put last; 0 where there is none.
@@ -68,19 +61,16 @@ pub fn put(
     mark: u8,
     work: &mut [u32],
     marks: &mut [u8],
-) -> Filled
+) -> Result<usize, Refusal>
     ensures { Fills (Part room) back room (put room day mark) n (working work.old marks.old) result (working work.new marks.new) }
 {
-    if room <= n {
-        return Filled::Refused(refusal::ROOM);
+    if room <= n || !has_place(n, work.len(), marks.len()) {
+        return Err(Refusal::Room);
     }
-    if has_place(n, work.len(), marks.len()) {
-        let at = place_of(back, n);
-        work[at] = day;
-        marks[at] = mark;
-        return Filled::Ready(n + 1);
-    }
-    Filled::Refused(refusal::ROOM)
+    let at = place_of(back, n);
+    work[at] = day;
+    marks[at] = mark;
+    Ok(n + 1)
 }
 
 // The paid date of what is put behind the n that are there.
@@ -101,7 +91,7 @@ pub fn put_first(
     mark: u8,
     work: &mut [u32],
     marks: &mut [u8],
-) -> Filled
+) -> Result<usize, Refusal>
     ensures { Fills (Part room) back room (λ _. put room day mark nothing) 0 (working work.old marks.old) result (working work.new marks.new) }
 {
     put(back, 0, room, day, mark, work, marks)
@@ -115,12 +105,9 @@ pub fn put_two(
     two: u32,
     work: &mut [u32],
     marks: &mut [u8],
-) -> Filled
+) -> Result<usize, Refusal>
     ensures { Fills (Part room) back room (λ _. then (put room one 1 nothing) (put room two 1)) 0 (working work.old marks.old) result (working work.new marks.new) }
 {
-    let n = match put_first(back, room, one, 1, work, marks) {
-        Filled::Refused(k) => return Filled::Refused(k),
-        Filled::Ready(n) => n,
-    };
+    let n = put_first(back, room, one, 1, work, marks)?;
     put(back, n, room, two, 1, work, marks)
 }

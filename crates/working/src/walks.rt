@@ -10,17 +10,18 @@ ghost use Rattle.working.specs.Paying.{Paid};
 ghost use Rattle.working.specs.Turning.{Front, Sized, Starts, Started, turn_on, Walks};
 
 use crate::candidates::{Known, Turn};
-use crate::{Adjusting, Begin, Course, Filled, Tip, candidates, lists};
+use crate::{Adjusting, Begin, Course, Tip, candidates, lists};
+use calendar::search;
 use calendar::search::Near;
-use calendar::{moves, search};
-use date::{Dated, span};
+use date::span;
+use refusal::Refusal;
 use steps::Sure;
 
 // What the loop leaves, and the tries.
 #[derive(Clone, Copy)]
-pub enum Walked {
-    Ready { tip: Tip, tries: u32 },
-    Refused(u8),
+pub struct Walked {
+    pub tip: Tip,
+    pub tries: u32,
 }
 
 // What the newest date adjusts to: as is known of it, or found. One that can't be adjusted is not known, and so 0: it refuses only where
@@ -31,12 +32,7 @@ fn first_front(newest: u32, sure: Sure, adjusting: Adjusting, closed: &[u32]) ->
     if newest == sure.day {
         return sure.paid;
     }
-    let convention = adjusting.convention;
-    let found = moves::date_of(search::adjust(newest, convention, adjusting.mask, closed));
-    match found {
-        Dated::Refused(_) => 0,
-        Dated::Day(a) => a.day,
-    }
+    adjusting.adjusted(newest, closed).unwrap_or(0)
 }
 
 // The newest of n dates gets its paid date beside it where it is the sure one. The answer is from which on the dates are paid.
@@ -90,7 +86,7 @@ fn turns(
     work: &mut [u32],
     paid: &mut [u32],
     marks: &mut [u8],
-) -> Walked
+) -> Result<Walked, Refusal>
     ensures { Walks adjusting.mask closed.now adjusting.convention course.back room (walk (turn_on course adjusting.mask closed.now adjusting.convention) room last_try 1) begin (working work.old marks.old) paid.old result (working work.new marks.new) paid.new }
 {
     let back = course.back;
@@ -101,50 +97,37 @@ fn turns(
         mask,
     };
     let mut n = begin.n;
-    let mut k: u32 = 1;
     let first = first_tip(back, begin, way, closed, work, paid);
     let mut known = Known {
         newest: lists::newest(back, n, work),
         front: first.front,
         near: Near::NOTHING,
     };
-    while k <= span::LAST {
-        let t = candidates::try_candidate(course, way, closed, known, k);
-        match t {
-            Turn::Stop(r) => {
-                return Walked::Refused(r);
-            }
+    for k in 1..=span::LAST {
+        let turn = candidates::try_candidate(course, way, closed, known, k)?;
+        match turn {
             Turn::Past => {
-                return Walked::Ready {
+                return Ok(Walked {
                     tip: Tip {
                         n,
                         start: first.start,
                         front: known.front,
                     },
                     tries: k,
-                };
+                });
             }
             Turn::Skip(next) => {
                 known = next;
-                k += 1;
             }
             Turn::Keep(next) => {
-                let put = lists::put(back, n, room, next.newest, 1, work, marks);
-                match put {
-                    Filled::Refused(r) => {
-                        return Walked::Refused(r);
-                    }
-                    Filled::Ready(m) => {
-                        lists::pay(back, n, next.front, paid);
-                        n = m;
-                        known = next;
-                        k += 1;
-                    }
-                }
+                let m = lists::put(back, n, room, next.newest, 1, work, marks)?;
+                lists::pay(back, n, next.front, paid);
+                n = m;
+                known = next;
             }
         }
     }
-    Walked::Refused(refusal::BOOK)
+    Err(Refusal::Book)
 }
 
 // Candidates are put behind the dates that are there, and their adjusted dates into `paid`, up to the first beyond the exit
@@ -158,11 +141,11 @@ pub fn walk(
     work: &mut [u32],
     paid: &mut [u32],
     marks: &mut [u8],
-) -> Walked
+) -> Result<Walked, Refusal>
     ensures { Walks adjusting.mask closed.now adjusting.convention course.back room (walk (turn_on course adjusting.mask closed.now adjusting.convention) room last_try 1) begin (working work.old marks.old) paid.old result (working work.new marks.new) paid.new }
 {
     if !lists::are_whole(work.len(), paid.len(), marks.len()) {
-        return Walked::Refused(refusal::ROOM);
+        return Err(Refusal::Room);
     }
     turns(course, room, adjusting, closed, begin, work, paid, marks)
 }

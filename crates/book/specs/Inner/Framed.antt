@@ -1,29 +1,15 @@
 -- What the functions that part a book promise each other.
 -- Assumes nothing.
-use Rattle.std.specs.Prelude.{ℕ, ◌+◌, ◌≤◌, ◌≡◌, List, leb, length, drop}
-use Rattle.refusal.specs.Answer.{Answer, given, refused}
-use Rattle.request.specs.Format.{pick}
-use Rattle.book.specs.declared.framing.Framed.{Framed}
-use Rattle.book.specs.declared.framing.Framed.TheVariants.{Whole, Refused}
-use Rattle.book.specs.Framing.{size_of}
+use Rattle.std.specs.Prelude.{ℕ, ◌+◌, ◌≤◌, ◌≡◌, List, length}
+use Rattle.book.specs.Framing.{size_of, body_of, behind}
 
-unfoldable pub framed : Answer (List (List ℕ)) → Framed
-framed (given rs) = Whole (length rs)
-framed (refused n) = Refused n
+-- the length that leads the bytes, or the body behind it, does not stand there whole
+abbrev pub Cut : List ℕ → Type 0
+Cut s = 2 + size_of s ≤ length s → 2 ≤ length s → ⊥
 
--- a byte, as a number
-pub record Byte (b r : ℕ) : Type 0 where
-  pub is : r ≡ b
-  pub small : r ≤ 255
-
--- the length at a place
-pub record SizeAt (bytes : List ℕ) (at r : ℕ) : Type 0 where
-  pub is : r ≡ size_of (drop at bytes)
-  pub small : r ≤ 65535
-
--- the place behind a request that stands there whole, or 0
-unfoldable pub end_from : List ℕ → ℕ → ℕ
-end_from s at = pick (leb 2 (length s)) (pick (leb (2 + size_of s) (length s)) (at + (2 + size_of s)) 0) 0
-
-unfoldable pub end_of : List ℕ → ℕ → ℕ
-end_of bytes at = end_from (drop at bytes) at
+-- the bytes begin with a length and this request, whole, and this is behind it
+pub record Leads (s request rest : List ℕ) : Type 0 where
+  pub led : 2 ≤ length s
+  pub whole : 2 + size_of s ≤ length s
+  pub is : request ≡ body_of s
+  pub onward : rest ≡ behind s

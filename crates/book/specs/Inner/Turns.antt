@@ -1,25 +1,17 @@
 -- What the functions under a book promise each other: a request's turn.
 -- Assumes nothing.
-use Rattle.std.specs.Prelude.{ℕ, ◌+◌, ◌-◌, ◌*◌, ◌/◌, ◌≤◌, ◌≡◌, List, [], ◌∷◌, length}
+use Rattle.std.specs.Prelude.{ℕ, ◌+◌, ◌-◌, ◌*◌, ◌/◌, ◌≤◌, ◌≡◌, List, length}
 use Rattle.refusal.specs.Answer.{given}
 use Rattle.steps.specs.Build.{over}
-use Rattle.book.specs.declared.calls.Single.{Single}
-use Rattle.book.specs.declared.calls.Single.TheVariants.{Built, Refused}
+use Rattle.steps.specs.declared.Built.{Built}
+use Rattle.book.specs.Inner.Calls.{count_in, numbers_in}
 use Rattle.book.specs.Framing.{requests_in}
 use Rattle.book.specs.Book.{Lists, call_in, count_of, turned}
 
 -- ---- an answer put
-unfoldable pub count_in : Single → ℕ
-count_in (Built count tries) = count
-count_in (Refused n) = 0
-
-unfoldable pub numbers_in : ℕ → Single → List ℕ
-numbers_in start (Built count tries) = count ∷ start ∷ tries ∷ 0 ∷ []
-numbers_in start (Refused n) = 0 ∷ 0 ∷ 0 ∷ n ∷ []
-
-pub record Puts (done : Single) (start r : ℕ) (answers answers' : List ℕ) : Type 0 where
-  pub count : r ≡ count_in done
-  pub after : answers' ≡ over (numbers_in start done) answers
+pub record Puts (built : Built) (start r : ℕ) (answers answers' : List ℕ) : Type 0 where
+  pub count : r ≡ count_in built
+  pub after : answers' ≡ over (numbers_in start built) answers
 
 -- ---- lists that are as long as each other
 pub record Even (l : Lists) : Type 0 where

@@ -135,7 +135,7 @@ in_closed false x h = let z : ◌≡◌ {A = ℕ} BOOK CLOSED = cc in let bad : 
 
 -- ---- the same of Following and Preceding on days from 1800 to 2399
 module _ (opens : ℕ → Bool) (back : Bool) where
-  as_search : (day : ℕ) → adjusted opens (towards back) day ≡ need BOOK (in_span day) (then (first_open opens back 31 day) within_span)
+  pub as_search : (day : ℕ) → adjusted opens (towards back) day ≡ need BOOK (in_span day) (then (first_open opens back 31 day) within_span)
   unfolding adjusted by_convention found towards
   as_search day = by back
     where

@@ -2,10 +2,11 @@
 -- Assumes nothing.
 use Rattle.std.specs.Prelude.{ℕ, zero, suc, ◌+◌, ◌-◌, ◌/◌, ◌≤◌, ◌<◌, ◌≡◌, true, List, ◌∷◌, leb, length, get_or, replicate}
 use Rattle.std.proofs.Math.Path.{refl, ap}
-use Rattle.std.proofs.Common.{sym, ◌∙◌, not-suc-le-zero, eq-or-lt_of_le, arith, le-leb, le-ltb, lt-ltb}
+use Rattle.std.proofs.Common.{sym, ◌∙◌, eq-or-lt_of_le, arith, le-leb, le-ltb, lt-ltb}
 use Rattle.std.proofs.Math.Logic.{⊎_elim}
-use Rattle.std.proofs.Math.Nat.{sub-zero, suc-sub-suc}
+use Rattle.std.proofs.Math.Nat.{sub-zero}
 use Rattle.std.proofs.lemmas.Bool.{lt-leb}
+use Rattle.std.proofs.lemmas.List.{get_or-replicate}
 use Rattle.refusal.specs.Answer.{given}
 use Rattle.date.specs.Civil.{pick_n}
 use Rattle.date.specs.Date.{in_book}
@@ -16,7 +17,7 @@ use Rattle.steps.specs.Build.{Schedule}
 use Rattle.outcomes.specs.Laws.Span.{le_or_lt}
 use Rattle.plain.specs.Listed.{one_list, at_in}
 use Rattle.plain.specs.Demand.{Plain, Passes, tenor_length, tenors_before, Owed, tenor_count, taken, MostOf, Most, Accepted}
-use Rattle.plain.specs.Laws.Chain.{ones, chain, chain_length}
+use Rattle.plain.specs.Laws.Chain.{chain, chain_length, chain_at}
 use Rattle.plain.specs.Most.{day_or, most_by}
 use Rattle.plain.specs.Laws.Falling.{due_list, Falls, GeneratedBack}
 use Rattle.plain.specs.Laws.Count.{line_later, counted}
@@ -31,27 +32,15 @@ use Rattle.plain.proofs.Laws.Lifted.{no_limit_back}
 use Rattle.coming.specs.Coming.{begins, comes, none_comes, between_or, flag_by, comes_backward}
 use Rattle.coming.specs.Shows.{Shows, at_first, at_later, at_none, by_cases}
 
--- ---- by places
-chain_at : (f : ℕ → ℕ) (j i : ℕ) → i ≤ j → get_or (chain f j) i 0 ≡ f (j - i)
-chain_at f zero zero h = refl
-chain_at f zero (suc i) h = absurd (not-suc-le-zero h)
-chain_at f (suc j) zero h = ap f (sym (sub-zero (suc j)))
-chain_at f (suc j) (suc i) h = chain_at f j i (omega arith) ∙ ap f (sym (suc-sub-suc j i))
-
-ones_at : (n i : ℕ) → i < n → get_or (ones n) i 0 ≡ 1
-ones_at zero i h = absurd (not-suc-le-zero h)
-ones_at (suc n) zero h = refl
-ones_at (suc n) (suc i) h = ones_at n i (omega arith)
-
 module _
     (q : Request) (closed : List ℕ) (dates flags : ℕ) (p : Plain q) (c : Passes q closed dates flags)
     (ds : List ℕ) (o : Owed q ds) (m : ℕ) (w : Most q m) (s : Schedule) (a : Accepted q ds m s) (x : ℕ)
   where
     abbrev e : ℕ
-    e = q.effective.day
+    e = q.effective
 
     abbrev t : ℕ
-    t = q.termination.day
+    t = q.termination
 
     abbrev j : ℕ
     j = m / tenor_count q
@@ -149,7 +138,7 @@ module _
           flag : length s.dates ≡ length (chain at j) → get_or s.flags (j - i - 1) 0 ≡ 1
           flag n =
               let one : a.flags.first ≡ 1 = omega (arith, first_is, same_length, chain_length at j) in
-              ap (λ (l : List ℕ). get_or l (j - i - 1) 0) (a.flags.all_flags ∙ ap (λ (y : ℕ). y ∷ replicate (length ds - 2) 1) one) ∙ ones_at (suc (length ds - 2)) (j - i - 1) (omega (arith, same_length, chain_length at j))
+              ap (λ (l : List ℕ). get_or l (j - i - 1) 0) (a.flags.all_flags ∙ ap (λ (y : ℕ). y ∷ replicate (length ds - 2) 1) one) ∙ get_or-replicate (suc (length ds - 2)) (j - i - 1) 1 0 (omega (arith, same_length, chain_length at j))
 
       -- it stands in front of them: the first period is irregular
       unmet : e < at j → Shows s x (comes (at i) (pick_n (leb e (at (suc i))) 1 0))
@@ -184,7 +173,7 @@ module _
               rest : i < j → get_or s.flags (j - i) 0 ≡ pick_n (leb e (at (suc i))) 1 0
               rest y =
                   let u : j - i ≡ suc (j - i - 1) = omega arith in
-                  rw (le-leb e (at (suc i)) (low y)) (ap (λ (k : ℕ). get_or s.flags k 0) u ∙ ap (λ (l : List ℕ). get_or l (suc (j - i - 1)) 0) its ∙ ones_at (length ds - 2) (j - i - 1) (omega (arith, same_length, chain_length at j)))
+                  rw (le-leb e (at (suc i)) (low y)) (ap (λ (k : ℕ). get_or s.flags k 0) u ∙ ap (λ (l : List ℕ). get_or l (suc (j - i - 1)) 0) its ∙ get_or-replicate (length ds - 2) (j - i - 1) 1 0 (omega (arith, same_length, chain_length at j)))
                 where
                   low : i < j → e ≤ at (suc i)
                   low y = ⊎_elim (λ (b : suc i ≡ j). let f : at (suc i) ≡ at j = ap at b in omega (arith, falls.low)) (λ (b : suc i < j). omega (arith, falls.low, falls.down (suc i) j (at (suc i)) (at j) b (falls.there (suc i) (omega arith)) (falls.there j (omega arith)))) (eq-or-lt_of_le y)
@@ -217,8 +206,8 @@ shown_backward q closed dates flags p c x =
           (λ h i. coming_next q closed dates flags p c o.0 o.1 m.0 m.1 r.0 r.2 x h i _ (most h i)),
     )
   where
-    in_book_lem : q.effective.day ≤ x → x < q.termination.day → in_book (x + 1) ≡ true
-    in_book_lem h i = rw (le-leb 693961 (x + 1) (omega (arith, book_from q.effective.day c.effective_in_book)), le-leb (x + 1) 803168 (omega (arith, book_le q.termination.day c.termination_in_book))) refl
+    next_booked : q.effective ≤ x → x < q.termination → in_book (x + 1) ≡ true
+    next_booked h i = rw (le-leb 693961 (x + 1) (omega (arith, book_from q.effective c.effective_in_book)), le-leb (x + 1) 803168 (omega (arith, book_le q.termination c.termination_in_book))) refl
 
-    most : q.effective.day ≤ x → x < q.termination.day → MostOf (taken q) (x + 1) (most_by q.tenor.unit (x + 1) q.termination.day)
-    most h i = most_by_lem (x + 1) q.termination.day (in_book_lem h i) (omega arith) c.termination_in_book q.tenor.unit
+    most : q.effective ≤ x → x < q.termination → MostOf (taken q) (x + 1) (most_by q.tenor.unit (x + 1) q.termination)
+    most h i = most_by_lem (x + 1) q.termination (next_booked h i) (omega arith) c.termination_in_book q.tenor.unit

@@ -1,9 +1,11 @@
 -- What the list of a forward trade shows: the coming date that one division finds, and the flag of the period that it ends.
+-- Apart from Backwards, and no plainer as one: there the list is read from its far end and its first flag is apart, here it is given by places and its last one is.
 -- Assumes nothing.
-use Rattle.std.specs.Prelude.{ℕ, zero, suc, ◌-◌, ◌/◌, ◌≤◌, ◌<◌, ◌≡◌, refl, ◌⊎◌, true, List, [], ◌∷◌, ◌++◌, length, get_or, replicate}
+use Rattle.std.specs.Prelude.{ℕ, suc, ◌-◌, ◌/◌, ◌≤◌, ◌<◌, ◌≡◌, ◌⊎◌, true, false, List, [], ◌∷◌, ◌++◌, length, get_or, replicate}
 use Rattle.std.proofs.Math.Path.{ap}
 use Rattle.std.proofs.Common.{sym, ◌∙◌, inl, inr, eq-or-lt_of_le, arith}
 use Rattle.std.proofs.Math.Logic.{⊎_elim}
+use Rattle.std.proofs.lemmas.List.{get_or-replicate, get_or_append_left, get_or-append_right, length-replicate}
 use borrow.Author.Tests.{le-leb, lt-leb}
 use Rattle.refusal.specs.Answer.{given}
 use Rattle.date.specs.Date.{in_book}
@@ -19,31 +21,31 @@ use Rattle.plain.specs.Forward.{PlainForward, DueOn, effective, between, termina
 use Rattle.plain.proofs.Laws.Rising.{Rises, GeneratedOn}
 use Rattle.plain.proofs.Laws.Mirror.{Climb, counted_on}
 use Rattle.outcomes.specs.NoLimit.{NoLimit}
-use Rattle.plain.proofs.Laws.MostOn.{most_on_by_lem}
-use Rattle.plain.proofs.Laws.Added.{counts_on}
+use Rattle.plain.proofs.Laws.MostOn.{most_on_sum}
+use Rattle.plain.specs.Laws.Tenor.{counts_by}
 use Rattle.coming.specs.Coming.{begins, comes, none_comes, between_or, on_or, comes_forward}
 use Rattle.coming.specs.Shows.{Shows, at_first, at_later, at_none, by_cases}
 use Rattle.plain.proofs.Laws.Onward.{some_units, climb, tenors_rise, generated_on}
 use Rattle.plain.proofs.Laws.ForwardProved.{no_limit_on, owed_on_once, most_on_once}
 
+-- ---- flags by places
 flag_in : (n last i : ℕ) → i < n → get_or (replicate n 1 ++ (last ∷ [])) i 0 ≡ 1
-flag_in zero last i h = let bad : ⊥ = omega arith in absurd bad
-flag_in (suc n) last zero h = refl
-flag_in (suc n) last (suc i) h = flag_in n last i (omega arith)
+flag_in n last i h = get_or_append_left (replicate n 1) (last ∷ []) 0 i (omega (arith, length-replicate {A = ℕ} n 1)) ∙ get_or-replicate n i 1 0 h
 
 flag_end : (n last : ℕ) → get_or (replicate n 1 ++ (last ∷ [])) n 0 ≡ last
-flag_end zero last = refl
-flag_end (suc n) last = flag_end n last
+flag_end n last =
+    let here : n - n ≡ 0 = omega arith in
+    get_or-append_right (replicate n 1) (last ∷ []) n n 0 (length-replicate {A = ℕ} n 1) (omega arith) ∙ ap (λ (i : ℕ). get_or (last ∷ []) i 0) here
 
 module _
     (q : Request) (closed : List ℕ) (dates flags : ℕ) (p : PlainForward q) (c : Passes q closed dates flags)
     (ds : List ℕ) (o : OwedOn q ds) (m : ℕ) (w : MostOn q m) (s : Schedule) (a : AcceptedOn q ds m s) (x : ℕ)
   where
     abbrev e : ℕ
-    e = q.effective.day
+    e = q.effective
 
     abbrev t : ℕ
-    t = q.termination.day
+    t = q.termination
 
     abbrev j : ℕ
     j = m / tenor_count q
@@ -66,8 +68,8 @@ module _
     long : length s.dates ≡ length g.dates
     long = ap length its_dates
 
-    at_end_lem : get_or s.dates (length g.dates - 1) 0 ≡ t
-    at_end_lem = ap (λ (l : List ℕ). get_or l (length g.dates - 1) 0) its_dates ∙ g.ends
+    ends_at : get_or s.dates (length g.dates - 1) 0 ≡ t
+    ends_at = ap (λ (l : List ℕ). get_or l (length g.dates - 1) 0) its_dates ∙ g.ends
 
     last_same : a.flags.last ≡ g.flag
     last_same = by a.flags.last_flag g.last_flag
@@ -120,7 +122,7 @@ module _
           }
 
       to_x : Rises (tenors_after q) e x i
-      to_x = counted_on (added q) e x (tenor_count q) (some_units q p) from (omega (arith, book_le t c.termination_in_book)) upto mx v (tenors_after q) (counts_on (tenor_length q) q.tenor.unit e)
+      to_x = counted_on (added q) e x (tenor_count q) (some_units q p) from (omega (arith, book_le t c.termination_in_book)) upto mx v (tenors_after q) (counts_by false (tenor_length q) q.tenor.unit e)
 
       keeps : (k : ℕ) → k ≤ i → line k ≤ x
       keeps k h = ⊎_elim (λ (z : k ≡ i). at z) (λ (l : k < i). omega (arith, to_x.high, to_x.up k i (line k) (line i) l (to_x.there k (omega arith)) (to_x.there i (omega arith)))) (eq-or-lt_of_le h)
@@ -160,7 +162,7 @@ module _
           no : g.flag ≡ 1 → ⊥
           no r =
               let y : length g.dates - 1 ≡ j = omega (arith, g.count) in
-              let u : get_or s.dates j 0 ≡ t = ap (λ (k : ℕ). get_or s.dates k 0) (sym y) ∙ at_end_lem in
+              let u : get_or s.dates j 0 ≡ t = ap (λ (k : ℕ). get_or s.dates k 0) (sym y) ∙ ends_at in
               omega (arith, at_place j (omega arith), keeps j (omega arith))
 
           end : i ≡ length g.dates - 2 → get_or (replicate (length g.dates - 2) 1 ++ (g.flag ∷ [])) i 0 ≡ g.flag
@@ -169,7 +171,7 @@ module _
           yes : g.flag ≡ 0 → Shows s x (comes t 0)
           yes r =
               let y : length g.dates - 1 ≡ suc i = omega (arith, g.count) in
-              let u : get_or s.dates (suc i) 0 ≡ t = ap (λ (k : ℕ). get_or s.dates k 0) (sym y) ∙ at_end_lem in
+              let u : get_or s.dates (suc i) 0 ≡ t = ap (λ (k : ℕ). get_or s.dates k 0) (sym y) ∙ ends_at in
               let f : i ≡ length g.dates - 2 = omega (arith, g.count) in
               at_later i t 0 (record { in_list = omega (arith, long, g.count); after = omega arith; before = before }) u (ap (λ (l : List ℕ). get_or l i 0) its_flags ∙ end f ∙ r)
 
@@ -198,7 +200,7 @@ shown_forward q closed dates flags p c x b =
       by_cases q r.0 x _
           (λ h. coming_first q closed dates flags p c o.0 o.1 m.0 m.1 r.0 r.2 x h)
           (λ h. coming_none q closed dates flags p c o.0 o.1 m.0 m.1 r.0 r.2 x h)
-          (λ h i. coming_next q closed dates flags p c o.0 o.1 m.0 m.1 r.0 r.2 x h i _ (most_on_by_lem q.effective.day x c.effective_in_book h b q.tenor.unit)),
+          (λ h i. coming_next q closed dates flags p c o.0 o.1 m.0 m.1 r.0 r.2 x h i _ (most_on_sum q.effective x c.effective_in_book h b q.tenor.unit)),
     )
 
 -- ---- from termination back: Backwards

@@ -1,17 +1,33 @@
-use Rattle.coming.proofs.Ways.{after_ways}
+use Rattle.std.proofs.Common.{ap, ◌∙◌}
+use Rattle.steps.specs.declared.Request.{Request}
+use Rattle.coming.specs.Coming.{coming_of}
+use Rattle.coming.proofs.Ways.{is_refused, is_first, is_none, is_between, passed}
 use Rattle.coming.proofs.after.Goals as goal
 
-pub returns-then-number-ne0 : goal.returns-then-number-ne0
-returns-then-number-ne0 c = search after_ways
+pub returns-in_err-check : goal.returns-in_err-check
+returns-in_err-check c =
+    is_refused _ _ _ _ c.check.ensures _ _ c.in_err-check.was c.from_residual.ensures
+    ∙ ap (coming_of c.args.q c.args.closed.now) c.asked.view_is
 
-pub returns-then-asked-q : goal.returns-then-asked-q
-returns-then-asked-q c = search after_ways
+pub returns-then-asked-effective : goal.returns-then-asked-effective
+returns-then-asked-effective c =
+    let from = ap (λ (q : Request). q.effective) c.q.view_is in
+    is_first _ _ _ _ c.check.ensures _ c.in_ok-check.was _ from c.if-asked-effective.true
+    ∙ ap (coming_of c.args.q c.args.closed.now) c.asked.view_is
 
-pub returns-then-q-asked : goal.returns-then-q-asked
-returns-then-q-asked c = search after_ways
+pub returns-then-termination-asked : goal.returns-then-termination-asked
+returns-then-termination-asked c =
+    let from = ap (λ (q : Request). q.effective) c.q.view_is in
+    let to = ap (λ (q : Request). q.termination) c.q.view_is in
+    is_none _ _ _ _ c.check.ensures _ c.in_ok-check.was _ _ from to c.if-asked-effective.false c.if-termination-asked.true
+    ∙ ap (coming_of c.args.q c.args.closed.now) c.asked.view_is
 
 pub between-requires : goal.between-requires
-between-requires c = search after_ways
+between-requires c = passed _ _ _ _ c.check.ensures _ c.in_ok-check.was
 
 pub returns : goal.returns
-returns c = search after_ways
+returns c =
+    let from = ap (λ (q : Request). q.effective) c.q.view_is in
+    let to = ap (λ (q : Request). q.termination) c.q.view_is in
+    is_between _ _ _ _ c.check.ensures _ c.in_ok-check.was _ _ from to c.if-asked-effective.false _ c.if-termination-asked.false c.between.ensures
+    ∙ ap (coming_of c.args.q c.args.closed.now) c.asked.view_is

@@ -3,6 +3,3 @@ use Rattle.coming.proofs.ahead.Goals as goal
 
 pub overflow_add-k : goal.overflow_add-k
 overflow_add-k c = search from_seed
-
-pub returns : goal.returns
-returns c = search from_seed

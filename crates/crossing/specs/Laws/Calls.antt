@@ -1,33 +1,20 @@
 -- An answer in one number that a call gave, handed on; one law for each way.
 -- Assumes nothing.
-use Rattle.std.specs.Prelude.{ℕ, zero, suc, ◌<◌, ◌≡◌, Bool, List, ℤ, pos, neg_ℤ, ◌-ℤ◌}
-use Rattle.std.proofs.Math.Path.{ap, sym}
+use Rattle.std.specs.Prelude.{ℕ, zero, suc, ◌<◌, ◌≡◌, List, Result, Ok, Err, ℤ, pos, neg_ℤ, ◌-ℤ◌}
+use Rattle.std.proofs.Math.Path.{ap, refl}
 use Rattle.std.proofs.Common.{◌∙◌, arith, Fits, SFits, to_z, of_z, to_z-of_z}
 use Rattle.std.proofs.Math.IntN.{+ℤ_idl}
 use Rattle.std.specs.Int.Signed.{mag}
 use Rattle.std.specs.Int.{w8, w32, w64}
 use Rattle.std.proofs.Math.Facts.{to_z_pos}
-use Rattle.refusal.specs.Answer.{Answer, given, refused, then}
+use Rattle.refusal.specs.Answer.{Answer, given, refused, answered, then}
+use Rattle.refusal.specs.declared.Refusal.{Refusal}
 use Rattle.refusal.specs.Laws.Answers.{then_given, then_refused}
 use Rattle.period.specs.Laws.Signed.{same32}
-use Rattle.period.specs.declared.Unit.{Unit}
-use Rattle.calendar.specs.declared.Convention.{Convention}
-use Rattle.steps.specs.declared.Rule.{Rule}
-use Rattle.crossing.specs.declared.NamedUnit.{NamedUnit}
-use Rattle.crossing.specs.declared.NamedUnit.TheVariants as unit-is
-use Rattle.crossing.specs.declared.NamedRule.{NamedRule}
-use Rattle.crossing.specs.declared.NamedRule.TheVariants as rule_is
-use Rattle.crossing.specs.declared.NamedConvention.{NamedConvention}
-use Rattle.crossing.specs.declared.NamedConvention.TheVariants as convention_is
-use Rattle.crossing.specs.declared.NamedFlag.{NamedFlag}
-use Rattle.crossing.specs.declared.NamedFlag.TheVariants as flag_is
-use Rattle.steps.specs.declared.Request.{Request}
-use Rattle.crossing.specs.declared.requests.FromNumbers.{FromNumbers}
-use Rattle.crossing.specs.declared.requests.FromNumbers.TheVariants as Asked-is
-use Rattle.crossing.specs.Requests.{asked}
-use Rattle.crossing.specs.Answers.{one_number_of}
+use Rattle.coming.specs.declared.Coming.{Coming}
+use Rattle.coming.specs.Coming.{said, meant}
+use Rattle.crossing.specs.Answers.{one_number_of, marked}
 use Rattle.crossing.specs.Names.{name_of, Spelled}
-use Rattle.crossing.specs.Numbers.{named_unit, named_rule, named_convention, named_flag}
 
 pub handed : (r : ℤ) {x : ℤ} → mag r < 9223372036854775808 → r ≡ x → to_z w64 (of_z w64 r) ≡ x
 handed r s e = to_z-of_z {w = w64} {z = r} (record { sfits = s }) ∙ e
@@ -57,11 +44,9 @@ module _ {B : Type 0} (f : B → ℕ) {r : ℤ} (s : mag r < 9223372036854775808
 
   -- a value, and a refusal
   pub told_given : (b : Answer B) (v : B) → r ≡ pos (f v) → given v ≡ b → to_z w64 (of_z w64 r) ≡ one_number_of f b
-  unfolding one_number_of
   told_given b v e h = handed r s (e ∙ ap (one_number_of f) h)
 
   pub told_refused : (b : Answer B) (n : ℕ) → r ≡ neg_ℤ (pos n) → refused n ≡ b → to_z w64 (of_z w64 r) ≡ one_number_of f b
-  unfolding one_number_of
   told_refused b n e h = handed r s (e ∙ ap (one_number_of f) h)
 
 -- ---- what a number names
@@ -72,50 +57,11 @@ module _ {A B : Type 0} (x : Answer A) (k : A → Answer B) where
   pub unnamed : (n : ℕ) → x ≡ refused n → refused n ≡ then x k
   unnamed n e = then_refused x n k e
 
-module _ {m : NamedUnit} {x : Answer Unit} (p : named_unit m ≡ x) where
-  pub unit_named : (u : Unit) → m ≡ unit-is.Is u → x ≡ given u
-  unfolding named_unit
-  unit_named u e = sym p ∙ ap named_unit e
-
-  pub unit_unnamed : (n : ℕ) → m ≡ unit-is.Refused n → x ≡ refused n
-  unfolding named_unit
-  unit_unnamed n e = sym p ∙ ap named_unit e
-
-module _ {m : NamedRule} {x : Answer Rule} (p : named_rule m ≡ x) where
-  pub rule_named : (u : Rule) → m ≡ rule_is.Is u → x ≡ given u
-  unfolding named_rule
-  rule_named u e = sym p ∙ ap named_rule e
-
-  pub rule_unnamed : (n : ℕ) → m ≡ rule_is.Refused n → x ≡ refused n
-  unfolding named_rule
-  rule_unnamed n e = sym p ∙ ap named_rule e
-
-module _ {m : NamedConvention} {x : Answer Convention} (p : named_convention m ≡ x) where
-  pub convention_named : (u : Convention) → m ≡ convention_is.Is u → x ≡ given u
-  unfolding named_convention
-  convention_named u e = sym p ∙ ap named_convention e
-
-  pub convention_unnamed : (n : ℕ) → m ≡ convention_is.Refused n → x ≡ refused n
-  unfolding named_convention
-  convention_unnamed n e = sym p ∙ ap named_convention e
-
-module _ {m : NamedFlag} {x : Answer Bool} (p : named_flag m ≡ x) where
-  pub flag_named : (u : Bool) → m ≡ flag_is.Is u → x ≡ given u
-  unfolding named_flag
-  flag_named u e = sym p ∙ ap named_flag e
-
-  pub flag_unnamed : (n : ℕ) → m ≡ flag_is.Refused n → x ≡ refused n
-  unfolding named_flag
-  flag_unnamed n e = sym p ∙ ap named_flag e
-
-module _ {m : FromNumbers} {x : Answer Request} (p : asked m ≡ x) where
-  pub request_named : (q : Request) → m ≡ Asked-is.Is q → x ≡ given q
-  unfolding asked
-  request_named q e = sym p ∙ ap asked e
-
-  pub request_unnamed : (n : ℕ) → m ≡ Asked-is.Refused n → x ≡ refused n
-  unfolding asked
-  request_unnamed n e = sym p ∙ ap asked e
+-- ---- a coming date, as its number
+pub coming_number : (d : Result Coming Refusal) → one_number_of (λ c. marked (said c)) (answered d) ≡ one_number_of marked (meant d)
+unfolding meant
+coming_number (Ok c) = refl
+coming_number (Err r) = refl
 
 -- ---- what was written of an answer's name
 pub same_name : (z : ℤ) → SFits w64 z → name_of (to_z w64 (of_z w64 z)) ≡ name_of z

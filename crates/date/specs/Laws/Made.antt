@@ -1,34 +1,23 @@
 -- Laws of answers that are days, and of `make_of`: what each test refuses, and what an answer that is a day tells.
 -- Assumes nothing.
-use Rattle.std.specs.Prelude.{ℕ, suc, ◌+◌, ◌-◌, ◌≤◌, ◌<◌, ◌≡◌, refl, leb}
-use Rattle.std.proofs.Common.{ap, ◌∙◌, sym, arith}
+use Rattle.std.specs.Prelude.{ℕ, Result, Ok, Err, suc, ◌+◌, ◌-◌, ◌≤◌, ◌<◌, ◌≡◌, refl, leb}
+use Rattle.std.proofs.Common.{ap, arith}
 use borrow.Author.Tests.{le-leb, lt-leb, leb-true}
-use Rattle.refusal.specs.Answer.{Answer, given, refused, need, BOOK}
-use Rattle.refusal.specs.Laws.Answers.{fails, after, need_given}
-use Rattle.date.specs.declared.Date.{Date}
-use Rattle.date.specs.declared.Dated.{Dated}
-use Rattle.date.specs.declared.Dated.TheVariants.{Day, Refused}
+use Rattle.refusal.specs.Answer.{Answer, given, refused, answered, need, BOOK}
+use Rattle.refusal.specs.Laws.Answers.{fails, after, need_given, was_given, was_refused}
+use Rattle.refusal.specs.declared.Refusal.{Refusal}
+use Rattle.refusal.specs.Refusals.{number_of}
 use Rattle.date.specs.Civil.{pick_n, leap, row_of, gone, sum_to, day_number, month_length}
-use Rattle.date.specs.Date.{SPAN_FIRST, SPAN_LAST, dated, make_of}
+use Rattle.date.specs.Date.{SPAN_FIRST, SPAN_LAST, make_of}
 use Rattle.date.specs.Laws.Years.{gone_suc, gone_le}
 use Rattle.date.specs.Laws.Round.{Valid, day_in_year}
 
 -- what a call gave, by the case that it was
-pub given_day : (d : Dated) (x : Date) (a : Answer ℕ) → dated d ≡ a → d ≡ Day x → a ≡ given x.day
-unfolding dated
-given_day d x a h e = sym h ∙ rw e
+pub given_day : (d : Result ℕ Refusal) (x : ℕ) (a : Answer ℕ) → answered d ≡ a → d ≡ Ok x → a ≡ given x
+given_day = was_given
 
-pub refused_day : (d : Dated) (n : ℕ) (a : Answer ℕ) → dated d ≡ a → d ≡ Refused n → a ≡ refused n
-unfolding dated
-refused_day d n a h e = sym h ∙ rw e
-
--- two answers of the code that say the same are the same
-same_dated : (d e : Dated) → dated d ≡ dated e → d ≡ e
-unfolding dated
-same_dated (Day x) (Day y) h = ap (λ (n : ℕ). Day (record { day = n })) (let q : x.day ≡ y.day = cc in q)
-same_dated (Day x) (Refused n) h = let z : ◌≡◌ {A = ℕ} 0 1 = cc in let bad : ⊥ = omega arith in absurd bad
-same_dated (Refused n) (Day y) h = let z : ◌≡◌ {A = ℕ} 0 1 = cc in let bad : ⊥ = omega arith in absurd bad
-same_dated (Refused n) (Refused k) h = ap Refused (let q : n ≡ k = cc in q)
+pub refused_day : (d : Result ℕ Refusal) (r : Refusal) (a : Answer ℕ) → answered d ≡ a → d ≡ Err r → a ≡ refused (number_of r)
+refused_day = was_refused
 
 module _ (y m d : ℕ) where
   pub make_early : y < 1800 → refused BOOK ≡ make_of y m d

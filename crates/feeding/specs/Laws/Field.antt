@@ -106,16 +106,16 @@ module _ (t h x f d k n z : ℕ) (ps : List ℕ) (tag hi lo : ℕ) where
       lay_first l = taken _ _ keeps_first
 
     -- the body, or as much of it as is there
-    pub body_in_lem : (xs : List ℕ) → length xs ≤ m → n + 3 + length xs ≤ 20000 → k + length xs ≤ 20000 → eaten (settled opened) xs ≡ behind xs
+    pub rest_of_body : (xs : List ℕ) → length xs ≤ m → n + 3 + length xs ≤ 20000 → k + length xs ≤ 20000 → eaten (settled opened) xs ≡ behind xs
     unfolding eaten phase_behind begins pick
-    body_in_lem [] few f₁ k₁ =
+    rest_of_body [] few f₁ k₁ =
         let a : m - 0 ≡ m = omega arith in
         let b : k + 0 ≡ k = omega arith in
         let c : n + 3 + 0 ≡ n + 3 = omega arith in
         λ i. settled (at 3 tag hi x' f (sym a i) (sym b i) (sym c i) z' ps')
-    body_in_lem (b ∷ []) few f₁ k₁ =
+    rest_of_body (b ∷ []) few f₁ k₁ =
         ap (λ (s : State). eat_of s b) (goes_on opened (λ e. omega (arith, e, few))) ∙ eat_first b (omega arith) (omega arith) (omega arith)
-    body_in_lem (b ∷ c ∷ cs) few f₁ k₁ =
+    rest_of_body (b ∷ c ∷ cs) few f₁ k₁ =
         let left : m - 1 ≡ length (c ∷ cs) + (m - length (b ∷ c ∷ cs)) = omega (arith, few) in
         let p : k + 1 + length (c ∷ cs) ≡ k + length (b ∷ c ∷ cs) = omega arith in
         let q : n + 3 + 1 + length (c ∷ cs) ≡ n + 3 + length (b ∷ c ∷ cs) = omega arith in
@@ -142,7 +142,7 @@ module _ (t h x f d k n z : ℕ) (ps : List ℕ) (tag hi lo : ℕ) where
     -- the whole field
     module _ (xs : List ℕ) (few : length xs ≤ m) (f₁ : n + 3 + length xs ≤ 20000) (k₁ : k + length xs ≤ 20000) where
       pub field_eaten : eaten before (tag ∷ hi ∷ lo ∷ xs) ≡ behind xs
-      field_eaten = head_eaten xs ∙ body_in_lem xs few f₁ k₁
+      field_eaten = head_eaten xs ∙ rest_of_body xs few f₁ k₁
 
       pub field_laid : (l : List ℕ) → laid before (tag ∷ hi ∷ lo ∷ xs) l ≡ sets l k xs
       field_laid l = head_laid xs l ∙ body_on xs l few f₁ k₁

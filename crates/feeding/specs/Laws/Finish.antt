@@ -150,15 +150,15 @@ module _ (room fuel : ℕ) (fs : List Field) (t h f d k n z : ℕ) (ps l : List 
     out_of_order e = spoils (first_fails (begins tag xs) (size_ok tag m) (ltb t tag) e) (cut_on ∙ sym (fails 17 _ _ (ap (λ (y : ℕ). ltb y tag) g.tags ∙ e)))
 
     module _ (lt : ltb t tag ≡ true) where
-      on_field_lem : fields_from (suc fuel) fs w ≡ on_field (eqb tag 255) fs c' (fields_from fuel)
+      field_next : fields_from (suc fuel) fs w ≡ on_field (eqb tag 255) fs c' (fields_from fuel)
       unfolding on_cut
-      on_field_lem = cut_on ∙ sym (holds 17 _ _ _ (ap (λ (y : ℕ). ltb y tag) g.tags ∙ lt) refl)
+      field_next = cut_on ∙ sym (holds 17 _ _ _ (ap (λ (y : ℕ). ltb y tag) g.tags ∙ lt) refl)
 
       -- FF
       module _ (last : eqb tag 255 ≡ true) where
-        on_last_lem : fields_from (suc fuel) fs w ≡ need 17 (is_end c') (given fs)
+        last_next : fields_from (suc fuel) fs w ≡ need 17 (is_end c') (given fs)
         unfolding on_field
-        on_last_lem = on_field_lem ∙ ap (λ (b : Bool). on_field b fs c' (fields_from fuel)) last
+        last_next = field_next ∙ ap (λ (b : Bool). on_field b fs c' (fields_from fuel)) last
 
         size_last : size_ok tag m ≡ eqb m 0
         unfolding size_ok
@@ -166,7 +166,7 @@ module _ (room fuel : ℕ) (fs : List Field) (t h f d k n z : ℕ) (ps l : List 
 
         last_body : eqb m 0 ≡ false → Same
         unfolding is_end
-        last_body e = spoils (second_fails (begins tag xs) (size_ok tag m) _ (size_last ∙ e)) (on_last_lem ∙ sym (fails 17 _ _ (ap (λ (b : Bool). b && eqb (length rest') 0) (ap (λ (y : ℕ). eqb y 0) size ∙ e))))
+        last_body e = spoils (second_fails (begins tag xs) (size_ok tag m) _ (size_last ∙ e)) (last_next ∙ sym (fails 17 _ _ (ap (λ (b : Bool). b && eqb (length rest') 0) (ap (λ (y : ℕ). eqb y 0) size ∙ e))))
 
         module _ (none : eqb m 0 ≡ true) where
           empty : length xs ≡ 0
@@ -178,26 +178,26 @@ module _ (room fuel : ℕ) (fs : List Field) (t h f d k n z : ℕ) (ps l : List 
           abbrev ended : State
           ended = closing fuel t h 1 f d k n z ps tag hi lo rest l short g.low fits 5
 
-          at_end_lem : behind t h 1 f d k n z ps tag hi lo xs ≡ ended
-          at_end_lem = behind_last fuel t h 1 f d k n z ps tag hi lo rest l short g.low fits last
+          now_ended : behind t h 1 f d k n z ps tag hi lo xs ≡ ended
+          now_ended = behind_last fuel t h 1 f d k n z ps tag hi lo rest l short g.low fits last
 
           ends_here : (r : List ℕ) → rest' ≡ r → Same
           unfolding is_end then asked_in eaten
           ends_here [] e =
-              let state : eaten s₀ w ≡ ended = now ∙ ap (λ (s : State). eaten s rest') at_end_lem ∙ ap (eaten ended) e in
-              let buffer : laid s₀ w l ≡ l = laid_now ∙ ap (λ (s : State). laid s rest' (sets l k xs)) at_end_lem ∙ past_laid ended rest' (sets l k xs) refl ∙ ap (sets l k) (nil_of xs empty) in
+              let state : eaten s₀ w ≡ ended = now ∙ ap (λ (s : State). eaten s rest') now_ended ∙ ap (eaten ended) e in
+              let buffer : laid s₀ w l ≡ l = laid_now ∙ ap (λ (s : State). laid s rest' (sets l k xs)) now_ended ∙ past_laid ended rest' (sets l k xs) refl ∙ ap (sets l k) (nil_of xs empty) in
               let far : 12 ≤ tag = omega (arith, eqb-true tag 255 last) in
               let places : set ps tag k ≡ ps = set_out ps tag k (omega (arith, g.twelve, far)) in
               let dates : pick (eqb tag 11) m z ≡ z = left _ _ (ne_eqb tag 11 (λ q. omega (arith, q, far))) in
               let ok : is_end c' ≡ true = ap (λ (y : ℕ). eqb y 0 && eqb (length rest') 0) empty ∙ ap (λ (y : List ℕ). eqb (length y) 0) e in
-              ap (ans room) (on_last_lem ∙ sym (holds 17 _ _ _ ok refl))
+              ap (ans room) (last_next ∙ sym (holds 17 _ _ _ ok refl))
               ∙ ap (asked_from room) g.bodies
               ∙ sym (ap (λ (s : State). found s (laid s₀ w l) room) state ∙ ap (λ (y : List ℕ). found ended y room) buffer ∙ whole_finds ended l room sound_last refl
               ∙ ap (λ (y : List ℕ). asked_from room (stored l y (pick (eqb tag 11) m z / 4))) places ∙ ap (λ (y : ℕ). asked_from room (stored l ps (y / 4))) dates)
           ends_here (b ∷ bs) e =
-              let state : eaten s₀ w ≡ eaten ended (b ∷ bs) = now ∙ ap (λ (s : State). eaten s rest') at_end_lem ∙ ap (eaten ended) e in
+              let state : eaten s₀ w ≡ eaten ended (b ∷ bs) = now ∙ ap (λ (s : State). eaten s rest') now_ended ∙ ap (eaten ended) e in
               let more : is_end c' ≡ false = ap (λ (y : ℕ). eqb y 0 && eqb (length rest') 0) empty ∙ ap (λ (y : List ℕ). eqb (length y) 0) e ∙ ne_eqb (length (b ∷ bs)) 0 (λ q. omega (arith, q)) in
-              refused_both room (found (eaten s₀ w) (laid s₀ w l) room) (on_last_lem ∙ sym (fails 17 _ _ more))
+              refused_both room (found (eaten s₀ w) (laid s₀ w l) room) (last_next ∙ sym (fails 17 _ _ more))
               (unsound_refuses (eaten s₀ w) (laid s₀ w l) room (ap (λ (s : State). s.sound) state ∙ past_eaten ended b bs refl))
 
         last_by : (b : Bool) → eqb m 0 ≡ b → Same
@@ -208,7 +208,7 @@ module _ (room fuel : ℕ) (fs : List Field) (t h f d k n z : ℕ) (ps l : List 
       module _ (next : eqb tag 255 ≡ false) where
         on_next : fields_from (suc fuel) fs w ≡ need 17 (body_ok tag xs) (fields_from fuel (record { tag = tag; body = xs } ∷ fs) rest')
         unfolding on_field
-        on_next = on_field_lem ∙ ap (λ (b : Bool). on_field b fs c' (fields_from fuel)) next
+        on_next = field_next ∙ ap (λ (b : Bool). on_field b fs c' (fields_from fuel)) next
 
         split : body_ok tag xs ≡ size_ok tag m && begins tag xs
         split = body_split xs tag (omega (arith, ltb-true t tag lt)) next ∙ ap (λ (y : ℕ). size_ok tag y && begins tag xs) size

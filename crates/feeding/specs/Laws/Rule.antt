@@ -1,7 +1,13 @@
 -- Document 02, L1, the rule: any cutting of the bytes, empty parts too, ends in the same request or the same refusal as the whole, and
 -- the buffer holds the bodies.
 -- Assumes nothing.
-use Rattle.std.specs.Prelude.{ℕ, ◌≤◌, ◌<◌, ◌≡◌, take, drop}
+use Rattle.std.specs.Prelude.{ℕ, ◌≤◌, ◌<◌, ◌≡◌, take, drop, Option, None, Some, Result, Err}
+use Rattle.refusal.specs.declared.Refusal.{Refusal}
+use Rattle.refusal.specs.declared.Refusal.TheVariants.{Buffer}
+use Rattle.refusal.specs.Refusals.{number_of}
+use Rattle.refusal.specs.Answer.{refused, answered}
+use Rattle.refusal.specs.Laws.Answers.{same_answered}
+use Rattle.request.specs.declared.Decoded.{Decoded}
 use Rattle.std.proofs.Math.Path.{refl}
 use Rattle.std.proofs.Common.{sym, ap, ◌∙◌, arith, le-ltb, lt-ltb, eq-eqb, ne_eqb}
 use mathlib.Core.List.{List, [], ◌++◌}
@@ -9,12 +15,10 @@ use Rattle.std.proofs.Math.ListN.{length, length-append, length-drop, length-tak
 use Rattle.steps.specs.Build as build
 use Rattle.request.specs.Format.{decoded}
 use Rattle.request.specs.Laws.Picks.{taken, left}
-use Rattle.request.specs.Decode.{answered, closed_dates_after}
+use Rattle.request.specs.Decode.{counted, closed_dates_after}
 use Rattle.feeding.specs.declared.State.{State}
-use Rattle.feeding.specs.declared.Said.{Said}
-use Rattle.feeding.specs.declared.Said.TheVariants as said-is
 use Rattle.feeding.specs.Bodies.{bodies}
-use Rattle.feeding.specs.Feed.{fresh, eaten, laid, is_whole, found, refused_buffer, Feeds, done, Finishes}
+use Rattle.feeding.specs.Feed.{fresh, eaten, laid, is_whole, found, heard, Feeds, done, Finishes}
 use Rattle.feeding.specs.Parts.{Turn, Turns, start, turn, whole}
 use Rattle.feeding.specs.Laws.Cut.{eaten_cut, laid_cut}
 use Rattle.feeding.specs.Laws.Eat.{finished_eaten}
@@ -32,9 +36,18 @@ pub record Finished (w b : List ℕ) (s : State) (b' : List ℕ) : Type 0 where
   pub buffer : b' ≡ build.over (bodies w) b
 
 -- the answer, and what then stands in the list for closed dates, are document 01's of w
-pub record Decides (w : List ℕ) (r : Said) (closed closed' : List ℕ) : Type 0 where
-  pub answer : r ≡ said-is.Is (answered (decoded w (length closed)))
+pub record Decides (w : List ℕ) (r : Option (Result Decoded Refusal)) (closed closed' : List ℕ) : Type 0 where
+  pub answer : heard r ≡ Some (counted (decoded w (length closed)))
   pub dates : closed' ≡ closed_dates_after (decoded w (length closed)) closed
+
+-- an answer is known by what it says
+nothing_heard : (r : Option (Result Decoded Refusal)) → heard r ≡ None → r ≡ None
+nothing_heard None h = refl
+nothing_heard (Some x) h = let z : ◌≡◌ {A = ℕ} 0 1 = cc in let bad : ⊥ = omega arith in absurd bad
+
+refusal_heard : (r : Option (Result Decoded Refusal)) (k : Refusal) → heard r ≡ Some (refused (number_of k)) → r ≡ Some (Err k)
+refusal_heard None k h = let z : ◌≡◌ {A = ℕ} 0 1 = cc in let bad : ⊥ = omega arith in absurd bad
+refusal_heard (Some x) k h = ap Some (same_answered x (Err k) (let q : answered x ≡ refused (number_of k) = cc in q))
 
 module _ (w b : List ℕ) (long : 20000 ≤ length b) where
   over_long : length (build.over (bodies w) b) ≡ length b
@@ -44,15 +57,15 @@ module _ (w b : List ℕ) (long : 20000 ≤ length b) where
       omega (arith, length-append (bodies w) (drop (length (bodies w)) b), length-drop (length (bodies w)) b, few, length-take 20000 w)
 
   -- ---- a feed says "go on", and brings the reader behind the bytes and the part
-  module _ {s : State} {b₁ : List ℕ} (g : Behind w b s b₁) {p closed : List ℕ} {r : Said} {s' : State} {b₂ closed' : List ℕ} (t : Feeds s p b₁ closed r s' b₂ closed') where
+  module _ {s : State} {b₁ : List ℕ} (g : Behind w b s b₁) {p closed : List ℕ} {r : Option (Result Decoded Refusal)} {s' : State} {b₂ closed' : List ℕ} (t : Feeds s p b₁ closed r s' b₂ closed') where
     big : 20000 ≤ length b₁
     big = omega (arith, ap length g.buffer, over_long)
 
     new : s.finished ≡ 0
     new = ap (λ (x : State). x.finished) g.reader ∙ finished_eaten fresh w
 
-    pub goes_on : r ≡ said-is.More
-    goes_on = t.answer ∙ left _ _ (le-ltb _ _ big) ∙ taken _ _ (eq-eqb _ _ new)
+    pub goes_on : r ≡ None
+    goes_on = nothing_heard r (t.answer ∙ left _ _ (le-ltb _ _ big) ∙ taken _ _ (eq-eqb _ _ new))
 
     pub keeps_dates : closed' ≡ closed
     keeps_dates = t.dates ∙ left _ _ (le-ltb _ _ big) ∙ taken _ _ (eq-eqb _ _ new)
@@ -67,7 +80,7 @@ module _ (w b : List ℕ) (long : 20000 ≤ length b) where
         }
 
   -- ---- the finish answers as `decode` does for the whole, and leaves the buffer
-  module _ {s : State} {b₁ : List ℕ} (g : Behind w b s b₁) {closed : List ℕ} {r : Said} {s' : State} {closed' : List ℕ} (t : Finishes s b₁ closed r s' closed') where
+  module _ {s : State} {b₁ : List ℕ} (g : Behind w b s b₁) {closed : List ℕ} {r : Result Decoded Refusal} {s' : State} {closed' : List ℕ} (t : Finishes s b₁ closed r s' closed') where
     big_enough : 20000 ≤ length b₁
     big_enough = omega (arith, ap length g.buffer, over_long)
 
@@ -77,10 +90,10 @@ module _ (w b : List ℕ) (long : 20000 ≤ length b) where
         ∙ ap (λ (x : List ℕ). found (eaten fresh w) x (length closed)) (g.buffer ∙ sym (laid_bodies w b long))
         ∙ found_decoded w b (length closed) long
 
-    pub finish_decides : Decides w r closed closed'
+    pub finish_decides : Decides w (Some r) closed closed'
     finish_decides =
         record {
-          answer = t.answer ∙ left _ _ (le-ltb _ _ big_enough) ∙ ap (λ x. said-is.Is (answered x)) finds;
+          answer = ap Some (t.answer ∙ left _ _ (le-ltb _ _ big_enough) ∙ ap counted finds);
           dates = t.dates ∙ left _ _ (le-ltb _ _ big_enough) ∙ ap (λ x. closed_dates_after x closed) finds;
         }
 
@@ -104,11 +117,11 @@ module _ (w b : List ℕ) (long : 20000 ≤ length b) where
         ap (λ (x : State). found x b₁ room) g.reader ∙ found_done (eaten fresh w) b₁ room
         ∙ ap (λ (x : List ℕ). found (eaten fresh w) x room) (g.buffer ∙ sym (laid_bodies w b long)) ∙ found_decoded w b room long
 
-    module _ {p closed : List ℕ} {r : Said} {s' : State} {b₂ closed' : List ℕ} (t : Feeds s p b₁ closed r s' b₂ closed') where
+    module _ {p closed : List ℕ} {r : Option (Result Decoded Refusal)} {s' : State} {b₂ closed' : List ℕ} (t : Feeds s p b₁ closed r s' b₂ closed') where
       pub repeats : Decides w r closed closed'
       repeats =
           record {
-            answer = t.answer ∙ left _ _ (le-ltb _ _ large) ∙ left _ _ (ne_eqb _ _ over_now) ∙ ap (λ x. said-is.Is (answered x)) (again_finds (length closed));
+            answer = t.answer ∙ left _ _ (le-ltb _ _ large) ∙ left _ _ (ne_eqb _ _ over_now) ∙ ap (λ x. Some (counted x)) (again_finds (length closed));
             dates = t.dates ∙ left _ _ (le-ltb _ _ large) ∙ left _ _ (ne_eqb _ _ over_now) ∙ ap (λ x. closed_dates_after x closed) (again_finds (length closed));
           }
 
@@ -118,11 +131,11 @@ module _ (w b : List ℕ) (long : 20000 ≤ length b) where
       pub repeats_buffer : b₂ ≡ b₁
       repeats_buffer = t.bytes ∙ left _ _ (le-ltb _ _ large) ∙ left _ _ (ne_eqb _ _ over_now)
 
-    module _ {closed : List ℕ} {r : Said} {s' : State} {closed' : List ℕ} (t : Finishes s b₁ closed r s' closed') where
-      pub finishes_again : Decides w r closed closed'
+    module _ {closed : List ℕ} {r : Result Decoded Refusal} {s' : State} {closed' : List ℕ} (t : Finishes s b₁ closed r s' closed') where
+      pub finishes_again : Decides w (Some r) closed closed'
       finishes_again =
           record {
-            answer = t.answer ∙ left _ _ (le-ltb _ _ large) ∙ ap (λ x. said-is.Is (answered x)) (again_finds (length closed));
+            answer = ap Some (t.answer ∙ left _ _ (le-ltb _ _ large) ∙ ap counted (again_finds (length closed)));
             dates = t.dates ∙ left _ _ (le-ltb _ _ large) ∙ ap (λ x. closed_dates_after x closed) (again_finds (length closed));
           }
 
@@ -131,11 +144,11 @@ module _ (w b : List ℕ) (long : 20000 ≤ length b) where
 
 -- ---- a buffer that is too short: 18, and nothing changes, in every state
 module _ (s : State) (p b closed : List ℕ) (short : length b < 20000) where
-  pub short_feed : {r : Said} {s' : State} {b' closed' : List ℕ} → Feeds s p b closed r s' b' closed' → (r ≡ refused_buffer) × ((s' ≡ s) × ((b' ≡ b) × (closed' ≡ closed)))
-  short_feed t = (t.answer ∙ taken _ _ (lt-ltb _ _ short), (t.state ∙ taken _ _ (lt-ltb _ _ short), (t.bytes ∙ taken _ _ (lt-ltb _ _ short), t.dates ∙ taken _ _ (lt-ltb _ _ short))))
+  pub short_feed : {r : Option (Result Decoded Refusal)} {s' : State} {b' closed' : List ℕ} → Feeds s p b closed r s' b' closed' → (r ≡ Some (Err Buffer)) × ((s' ≡ s) × ((b' ≡ b) × (closed' ≡ closed)))
+  short_feed {r} t = (refusal_heard r Buffer (t.answer ∙ taken _ _ (lt-ltb _ _ short)), (t.state ∙ taken _ _ (lt-ltb _ _ short), (t.bytes ∙ taken _ _ (lt-ltb _ _ short), t.dates ∙ taken _ _ (lt-ltb _ _ short))))
 
-  pub short_finish : {r : Said} {s' : State} {closed' : List ℕ} → Finishes s b closed r s' closed' → (r ≡ refused_buffer) × ((s' ≡ s) × (closed' ≡ closed))
-  short_finish t = (t.answer ∙ taken _ _ (lt-ltb _ _ short), (t.state ∙ taken _ _ (lt-ltb _ _ short), t.dates ∙ taken _ _ (lt-ltb _ _ short)))
+  pub short_finish : {r : Result Decoded Refusal} {s' : State} {closed' : List ℕ} → Finishes s b closed r s' closed' → (r ≡ Err Buffer) × ((s' ≡ s) × (closed' ≡ closed))
+  short_finish {r} t = (same_answered r (Err Buffer) (t.answer ∙ taken _ _ (lt-ltb _ _ short)), (t.state ∙ taken _ _ (lt-ltb _ _ short), t.dates ∙ taken _ _ (lt-ltb _ _ short)))
 
 -- ---- the theorem: for every list of parts, from a reset, behind each feed and at the finish
 module _ (b : List ℕ) (long : 20000 ≤ length b) where
@@ -145,12 +158,12 @@ module _ (b : List ℕ) (long : 20000 ≤ length b) where
   behind_turns (turn {ts = ts} t before fed) = behind_feed (whole ts) b long (behind_turns before) fed
 
   -- each feed said "go on", and left the list for closed dates
-  pub all_go_on : {ts : List Turn} {s : State} {b₁ : List ℕ} (t : Turn) {s' : State} {b₂ : List ℕ} → Turns b ts s b₁ → Feeds s t.part b₁ t.closed t.answer s' b₂ t.closed_after → (t.answer ≡ said-is.More) × (t.closed_after ≡ t.closed)
+  pub all_go_on : {ts : List Turn} {s : State} {b₁ : List ℕ} (t : Turn) {s' : State} {b₂ : List ℕ} → Turns b ts s b₁ → Feeds s t.part b₁ t.closed t.answer s' b₂ t.closed_after → (t.answer ≡ None) × (t.closed_after ≡ t.closed)
   all_go_on {ts} t before fed = (goes_on (whole ts) b long (behind_turns before) fed, keeps_dates (whole ts) b long (behind_turns before) fed)
 
   -- the finish decides as document 01 does for the whole, and the buffer holds its bodies, every other place as before
-  pub any_cutting : {ts : List Turn} {s : State} {b₁ : List ℕ} → Turns b ts s b₁ → {closed : List ℕ} {r : Said} {s' : State} {closed' : List ℕ} → Finishes s b₁ closed r s' closed'
-      → Decides (whole ts) r closed closed' × Finished (whole ts) b s' b₁
+  pub any_cutting : {ts : List Turn} {s : State} {b₁ : List ℕ} → Turns b ts s b₁ → {closed : List ℕ} {r : Result Decoded Refusal} {s' : State} {closed' : List ℕ} → Finishes s b₁ closed r s' closed'
+      → Decides (whole ts) (Some r) closed closed' × Finished (whole ts) b s' b₁
   any_cutting {ts} before t = (finish_decides (whole ts) b long (behind_turns before) t, finish_finished (whole ts) b long (behind_turns before) t)
 
   -- two cuttings of the same bytes, the same buffer before: the same reader and the same buffer, so the same answer

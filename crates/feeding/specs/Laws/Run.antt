@@ -71,15 +71,15 @@ module _ (tag high sound finished size : ℕ) (places : List ℕ) where
 
 -- a run; one of no bytes leaves a reader that stands in a body as it is
 module _ (s : State) where
-  abbrev in_it_lem : ℕ → ℕ → ℕ → State
-  in_it_lem = in_body s.tag s.high s.sound s.finished s.size s.places
+  abbrev inside : ℕ → ℕ → ℕ → State
+  inside = in_body s.tag s.high s.sound s.finished s.size s.places
 
   pub run_eaten : (xs : List ℕ) → (length xs ≡ 0 → ⊥) → Run s (length xs) → eaten s xs ≡ ran s (length xs)
   unfolding ran eaten
   run_eaten [] some r = absurd (some refl)
   run_eaten (b ∷ bs) some r =
       let d : s.due ≡ length (b ∷ bs) + (s.due - length (b ∷ bs)) = omega (arith, r.due) in
-      let here : s ≡ in_it_lem (length (b ∷ bs) + (s.due - length (b ∷ bs))) s.kept s.fed = λ i. at (r.body i) s.tag s.high s.sound s.finished (d i) s.kept s.fed s.size s.places in
+      let here : s ≡ inside (length (b ∷ bs) + (s.due - length (b ∷ bs))) s.kept s.fed = λ i. at (r.body i) s.tag s.high s.sound s.finished (d i) s.kept s.fed s.size s.places in
       ap (λ (x : State). eaten x (b ∷ bs)) here
       ∙ body_eaten s.tag s.high s.sound s.finished s.size s.places b bs (s.due - length (b ∷ bs)) s.kept s.fed r.fed r.kept
       ∙ ap (λ (p : ℕ). settled (at p s.tag s.high s.sound s.finished (s.due - length (b ∷ bs)) (s.kept + length (b ∷ bs)) (s.fed + length (b ∷ bs)) s.size s.places)) (sym r.body)
@@ -89,7 +89,7 @@ module _ (s : State) where
   run_laid [] l some r room = absurd (some refl)
   run_laid (b ∷ bs) l some r room =
       let d : s.due ≡ length (b ∷ bs) + (s.due - length (b ∷ bs)) = omega (arith, r.due) in
-      let here : s ≡ in_it_lem (length (b ∷ bs) + (s.due - length (b ∷ bs))) s.kept s.fed = λ i. at (r.body i) s.tag s.high s.sound s.finished (d i) s.kept s.fed s.size s.places in
+      let here : s ≡ inside (length (b ∷ bs) + (s.due - length (b ∷ bs))) s.kept s.fed = λ i. at (r.body i) s.tag s.high s.sound s.finished (d i) s.kept s.fed s.size s.places in
       ap (λ (x : State). laid x (b ∷ bs) l) here
       ∙ body_laid s.tag s.high s.sound s.finished s.size s.places b bs (s.due - length (b ∷ bs)) s.kept s.fed l r.fed r.kept
       ∙ sets-eq (b ∷ bs) l s.kept room

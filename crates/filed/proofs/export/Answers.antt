@@ -1,8 +1,5 @@
-use Rattle.filed.proofs.Ways.{exports}
+use Rattle.filed.proofs.Ways.{published}
 use Rattle.filed.proofs.export.Goals as goal
 
-pub returns-in-Bytes : goal.returns-in-Bytes
-returns-in-Bytes c = search exports
-
-pub returns-in-Refused : goal.returns-in-Refused
-returns-in-Refused c = search exports
+pub returns : goal.returns
+returns c = published c.one_number.result c.one_number.type_inv c.export.ensures c.one_number.ensures

@@ -4,8 +4,8 @@ use Rattle.filed.proofs.import.Goals as goal
 pub returns-then-line-eq0 : goal.returns-then-line-eq0
 returns-then-line-eq0 c = search imports
 
-pub returns-in-Days : goal.returns-in-Days
-returns-in-Days c = search imports
+pub returns-in-Ok : goal.returns-in-Ok
+returns-in-Ok c = search imports
 
-pub returns-in-Refused : goal.returns-in-Refused
-returns-in-Refused c = search imports
+pub returns-in-Err : goal.returns-in-Err
+returns-in-Err c = search imports

@@ -5,6 +5,10 @@ use Rattle.std.proofs.Math.Path.{refl}
 use Rattle.std.proofs.Common.{sym, ◌∙◌, arith}
 use Prim.Native.Nat.{ℕ, zero, suc, ◌+◌, ◌≤◌, ◌<◌, min}
 use borrow.Author.Tests.{le-leb, lt-leb, eq-eqb, ne_eqb, eqb-true, leb-true}
+use Rattle.std.proofs.lemmas.Bool.{false≢true}
+use Rattle.refusal.specs.declared.Refusal.{Refusal}
+use Rattle.refusal.specs.Refusals.{number_of, in_table}
+use Rattle.refusal.specs.Laws.Searched.{is_listed, no_refusal}
 use Rattle.refusal.specs.Answer.{Answer, refused, then, UNEVEN, ROOM}
 use Rattle.date.specs.Civil.{pick_n}
 use Rattle.steps.specs.declared.Request.{Request}
@@ -41,6 +45,13 @@ module _ (work paid marks dates flags unadjusted : ℕ) where
           pub room_for : work ≤ min dates 4096 → 0 ≡ lent_refusal work paid marks dates flags unadjusted
           unfolding lent_refusal
           room_for h = rw (eq-eqb dates flags e, eq-eqb dates unadjusted u, eq-eqb work paid b, eq-eqb work (marks + 1) f, le-leb work (min dates 4096) h) refl
+
+-- no refusal has the number 0
+pub never_0 : (r : Refusal) → number_of r ≡ 0 → ⊥
+never_0 r e =
+    let a : in_table 0 ≡ true = rw e at (is_listed r) in
+    let b : in_table 0 ≡ false = no_refusal 0 (λ h k. let bad : ⊥ = omega arith in bad) in
+    false≢true (sym b ∙ a)
 
 impossible : (n : ℕ) → 0 ≡ suc n → ⊥
 impossible n h = omega arith

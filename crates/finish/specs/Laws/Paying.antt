@@ -41,8 +41,8 @@ module _ (f : ℕ → Answer ℕ) where
   pay_first : (x : ℕ) (xs : List ℕ) (z : ℕ) (zs : List ℕ) → pay_between f 0 1 (x ∷ xs) (z ∷ zs) ≡ then (f x) (λ y. given (y ∷ zs))
   pay_first x xs z zs = pay_parts [] (x ∷ []) xs [] (z ∷ []) zs 0 1 refl refl refl refl ∙ each_one x (λ us. given (us ++ zs))
 
-  pay_last_lem : (xs : List ℕ) (t : ℕ) (zs : List ℕ) (w : ℕ) → length xs ≡ length zs → pay_between f (length (xs ++ (t ∷ [])) - 1) (length (xs ++ (t ∷ []))) (xs ++ (t ∷ [])) (zs ++ (w ∷ [])) ≡ then (f t) (λ u. given (zs ++ (u ∷ [])))
-  pay_last_lem xs t zs w e =
+  last_part_paid : (xs : List ℕ) (t : ℕ) (zs : List ℕ) (w : ℕ) → length xs ≡ length zs → pay_between f (length (xs ++ (t ∷ [])) - 1) (length (xs ++ (t ∷ []))) (xs ++ (t ∷ [])) (zs ++ (w ∷ [])) ≡ then (f t) (λ u. given (zs ++ (u ∷ [])))
+  last_part_paid xs t zs w e =
       let n = length-append xs (t ∷ []) in
       pay_parts xs (t ∷ []) [] zs (w ∷ []) [] (length (xs ++ (t ∷ [])) - 1) (length (xs ++ (t ∷ []))) e refl (omega (arith, n)) (omega (arith, n)) ∙ each_one t (λ us. given (zs ++ (us ++ [])))
 
@@ -136,8 +136,8 @@ module _ (f : ℕ → Answer ℕ) where
         rw p.so (ap given (ap (λ (l : List ℕ). take b ps ++ l) t ∙ take-append-drop b ps))
 
     -- it stays paid while an earlier part is filled in
-    still_paid_lem : (xs : List ℕ) → each f (take (b - a) (drop a ds)) ≡ given xs → PaidAlready f b c ds ps → PaidAlready f b c ds (take a ps ++ (xs ++ drop b ps))
-    still_paid_lem xs e p =
+    paid_through : (xs : List ℕ) → each f (take (b - a) (drop a ds)) ≡ given xs → PaidAlready f b c ds ps → PaidAlready f b c ds (take a ps ++ (xs ++ drop b ps))
+    paid_through xs e p =
         record { so = p.so ∙ ap (λ (l : List ℕ). given (take (c - b) l)) (sym (dropped_b xs (as_cut xs e))) }
 
   -- what is left when some in the middle are paid
@@ -149,7 +149,7 @@ module _ (f : ℕ → Answer ℕ) where
       around : (xs : List ℕ) → each f (take (b - a) (drop a ds)) ≡ given xs → pay_between f b d ds (take a ps ++ (xs ++ drop b ps)) ≡ pay_between f c d ds (take a ps ++ (xs ++ drop b ps))
       around xs e =
           let size = filled_size ds ps a b c ab bc (omega arith) even xs (as_cut ds ps a b c ab bc (omega arith) even xs e) in
-          let stays = paid_stays ds (take a ps ++ (xs ++ drop b ps)) b b c (omega arith) bc (omega arith) (even ∙ sym size) (still_paid_lem ds ps a b c ab bc (omega arith) even xs e p) in
+          let stays = paid_stays ds (take a ps ++ (xs ++ drop b ps)) b b c (omega arith) bc (omega arith) (even ∙ sym size) (paid_through ds ps a b c ab bc (omega arith) even xs e p) in
           glue ds (take a ps ++ (xs ++ drop b ps)) b c d bc cd fits (even ∙ sym size) ∙ rw stays refl
 
       by : (o : Answer (List ℕ)) → each f (take (b - a) (drop a ds)) ≡ o → then (pay_between f a b ds ps) (pay_between f b d ds) ≡ then (pay_between f a b ds ps) (pay_between f c d ds)
@@ -225,7 +225,7 @@ module _ (q : Request) (closed : List ℕ) (seed : ℕ) where
     many_last : (y : ℕ) → then (pay_between L (length (x ∷ (ds ++ (t ∷ []))) - 1) (length (x ∷ (ds ++ (t ∷ [])))) (x ∷ (ds ++ (t ∷ []))) (y ∷ (ps ++ (w ∷ [])))) (rest (x ∷ (ds ++ (t ∷ [])))) ≡ then (on_last L (y ∷ (ds ++ (t ∷ [])))) rest₀
     unfolding then
     many_last y =
-        rw (pay_last_lem L (x ∷ ds) t (y ∷ ps) w (ap suc even), on_last_lem L (y ∷ ds) t) (by (L t))
+        rw (last_part_paid L (x ∷ ds) t (y ∷ ps) w (ap suc even), on_last_lem L (y ∷ ds) t) (by (L t))
       where
         by : (o : Answer ℕ) → then (then o (λ u. given (y ∷ (ps ++ (u ∷ []))))) (rest (x ∷ (ds ++ (t ∷ [])))) ≡ then (then o (λ u. given (y ∷ (ds ++ (u ∷ []))))) rest₀
         by (given u) = many_middle y u

@@ -1,14 +1,11 @@
-use Rattle.holidays.proofs.ImportWays.{imports}
+use Rattle.holidays.proofs.ImportWays.{handed, import_refused, import_days, imports}
 use Rattle.holidays.proofs.import.Goals as goal
 
-pub returns-in-Refused : goal.returns-in-Refused
-returns-in-Refused c = search imports
+pub returns-then-not-is_size : goal.returns-then-not-is_size
+returns-then-not-is_size c = search imports
 
-pub returns-in-Days : goal.returns-in-Days
-returns-in-Days c = search imports
+pub returns-in_err-count : goal.returns-in_err-count
+returns-in_err-count c = rw (handed _ _ c.from_residual.ensures) (import_refused _ _ c.read_file.ensures _ c.in_err-count.was)
 
 pub returns : goal.returns
-returns c = search imports
-
-pub write_days-requires : goal.write_days-requires
-write_days-requires c = search imports
+returns c = import_days _ _ c.read_file.ensures _ c.in_ok-count.was c.write_days.ensures

@@ -1,10 +1,8 @@
 -- What the code's ways along an unfolded line promise. A place is where a byte of the file stands, with the number of the physical
 -- line there; what is ahead of it are the bytes of the unfolded line from there.
 -- Assumes nothing.
-use Rattle.std.specs.Prelude.{ℕ, ◌+◌, ◌≤◌, ◌<◌, ◌≡◌, Bool, true, false, [], ◌∷◌, length, drop, get_or}
+use Rattle.std.specs.Prelude.{ℕ, ◌+◌, ◌≤◌, ◌<◌, ◌≡◌, Bool, true, false, Option, None, Some, [], ◌∷◌, length, drop, get_or}
 use Rattle.holidays.specs.declared.lines.Place.{Place}
-use Rattle.holidays.specs.declared.lines.Step.{Step}
-use Rattle.holidays.specs.declared.lines.Step.TheVariants.{End, Byte}
 use Rattle.holidays.specs.Words.{Bytes}
 use Rattle.holidays.specs.Inner.Cut.{Cut, cut_from}
 
@@ -36,11 +34,11 @@ pub record Took (file : Bytes) (at line b i n : ℕ) : Type 0 where
   pub inside : Inside file at line i n
   pub further : at < i
 
-unfoldable pub IsStepped : Bytes → ℕ → ℕ → Step → Type 0
-IsStepped file at line End = ahead file at line ≡ []
-IsStepped file at line (Byte b i n) = Took file at line b i n
+unfoldable pub IsStepped : Bytes → ℕ → ℕ → Option (ℕ × Place) → Type 0
+IsStepped file at line None = ahead file at line ≡ []
+IsStepped file at line (Some s) = Took file at line s.0 s.1.at s.1.line
 
-pub record Steps (file : Bytes) (at line : ℕ) (r : Step) : Type 0 where
+pub record Steps (file : Bytes) (at line : ℕ) (r : Option (ℕ × Place)) : Type 0 where
   pub so : IsStepped file at line r
 
 -- ---- along the line: as far as before, what lies behind it is the same

@@ -1,8 +1,6 @@
 -- What the code's map of days stands for: a bit a day, from 1 January 1800 on.
 -- Assumes nothing.
-use Rattle.std.specs.Prelude.{ℕ, zero, suc, ◌+◌, ◌-◌, ◌/◌, ◌%◌, ◌^◌, ◌≤◌, ◌<◌, ◌≡◌, Bool, true, false, List, [], ◌∷◌, ◌++◌, eqb, length, drop, get_or}
-use Rattle.holidays.specs.declared.days.Added.{Added}
-use Rattle.holidays.specs.declared.days.Added.TheVariants as added_is
+use Rattle.std.specs.Prelude.{ℕ, zero, suc, ◌+◌, ◌-◌, ◌/◌, ◌%◌, ◌^◌, ◌≤◌, ◌<◌, ◌≡◌, Bool, true, false, Option, None, Some, List, [], ◌∷◌, ◌++◌, eqb, length, drop, get_or}
 use Rattle.holidays.specs.Words.{pick}
 use Rattle.holidays.specs.Import.{add}
 
@@ -42,11 +40,11 @@ pub record Fulls (map : List ℕ) (o past : ℕ) (r : Bool) : Type 0 where
 pub record Empties (map : List ℕ) (o : ℕ) (r : Bool) : Type 0 where
   pub bits : r ≡ true → (j : ℕ) → j < 32 → bit_at map (o + j) ≡ false
 
--- ---- days added
-unfoldable pub IsAdded : List ℕ → ℕ → ℕ → ℕ → Added → List ℕ → Type 0
-IsAdded map first past limit (added_is.Days n) map' =
+-- ---- days added; none where they are more than the limit
+unfoldable pub IsAdded : List ℕ → ℕ → ℕ → ℕ → Option ℕ → List ℕ → Type 0
+IsAdded map first past limit (Some n) map' =
     (days_of map' ≡ add (past - first) (FIRST + first) (days_of map)) × ((n ≡ length (days_of map')) × ((n ≤ limit) × (length map' ≡ WORDS)))
-IsAdded map first past limit added_is.Full map' = limit < length (add (past - first) (FIRST + first) (days_of map))
+IsAdded map first past limit None map' = limit < length (add (past - first) (FIRST + first) (days_of map))
 
-pub record Adds (map : List ℕ) (first past limit : ℕ) (r : Added) (map' : List ℕ) : Type 0 where
+pub record Adds (map : List ℕ) (first past limit : ℕ) (r : Option ℕ) (map' : List ℕ) : Type 0 where
   pub so : IsAdded map first past limit r map'

@@ -1,8 +1,6 @@
 -- What the code's stack of open parts stands for.
 -- Assumes nothing.
-use Rattle.std.specs.Prelude.{ℕ, zero, suc, ◌+◌, ◌≡◌, Bool, true, false, not, List, [], ◌∷◌, eqb, get_or, set}
-use Rattle.holidays.specs.declared.parts.Opened.{Opened}
-use Rattle.holidays.specs.declared.parts.Opened.TheVariants as opened-is
+use Rattle.std.specs.Prelude.{ℕ, zero, suc, ◌+◌, ◌≡◌, Bool, true, false, not, Option, None, Some, List, [], ◌∷◌, eqb, get_or, set}
 use Rattle.holidays.specs.Words.{Bytes, pick, uppers, spells}
 use Rattle.holidays.specs.Content.{value}
 use Rattle.holidays.specs.Nesting.{Parts, broken, open_are, after_begin}
@@ -31,12 +29,12 @@ NestIsOk e (p ∷ []) = spells p "VCALENDAR" ≡ true
 NestIsOk e (p ∷ q ∷ []) = (spells p "VCALENDAR" ≡ false) × ((spells p "VEVENT" ≡ e) × (spells q "VCALENDAR" ≡ true))
 NestIsOk e (p ∷ q ∷ r ∷ ps) = (spells p "VCALENDAR" ≡ false) × ((spells p "VEVENT" ≡ false) × NestIsOk e (q ∷ r ∷ ps))
 
-unfoldable pub OpensAs : Bytes → ℕ → ℕ → ℕ → List ℕ → Opened → List ℕ → Type 0
-OpensAs file at line depth stack opened-is.Broken stack' =
+unfoldable pub OpensAs : Bytes → ℕ → ℕ → ℕ → List ℕ → Option Bool → List ℕ → Type 0
+OpensAs file at line depth stack None stack' =
     (after_begin (value (ahead file at line)) (parts_of file stack depth) ≡ broken) × (stack' ≡ stack)
-OpensAs file at line depth stack (opened-is.Open e) stack' =
+OpensAs file at line depth stack (Some e) stack' =
     (after_begin (value (ahead file at line)) (parts_of file stack depth) ≡ open_are (parts_of file stack' (depth + 1)))
     × ((NestIsOk e (parts_of file stack' (depth + 1))) × (stack' ≡ set stack depth at))
 
-pub record Opens (file : Bytes) (at line depth : ℕ) (event : Bool) (stack : List ℕ) (r : Opened) (stack' : List ℕ) : Type 0 where
+pub record Opens (file : Bytes) (at line depth : ℕ) (event : Bool) (stack : List ℕ) (r : Option Bool) (stack' : List ℕ) : Type 0 where
   pub so : OpensAs file at line depth stack r stack'

@@ -1,12 +1,12 @@
 -- What the code's walk over the lines promises.
 -- Assumes nothing.
-use Rattle.std.specs.Prelude.{ℕ, ◌+◌, ◌≤◌, ◌≡◌, Bool, not, ◌&&◌, List, eqb, length, drop, get_or}
+use Rattle.std.specs.Prelude.{ℕ, ◌+◌, ◌≤◌, ◌≡◌, Bool, not, ◌&&◌, Result, Ok, Err, List, eqb, length, drop, get_or}
 use Rattle.holidays.specs.declared.turns.State.{State}
-use Rattle.holidays.specs.declared.turns.Turn as code
-use Rattle.holidays.specs.declared.turns.Turn.TheVariants as turn_is
+use Rattle.refusal.specs.declared.Refusal.{Refusal}
+use Rattle.refusal.specs.Refusals.{number_of}
 use Rattle.refusal.specs.Answer.{ICAL}
-use Rattle.holidays.specs.declared.walk.Ended.{Ended}
-use Rattle.holidays.specs.declared.walk.Ended.TheVariants as ended_is
+use Rattle.refusal.specs.declared.Refusal.TheVariants.{Ical}
+use Rattle.holidays.specs.declared.Fault.{Fault}
 use Rattle.holidays.specs.Words.{Bytes, pick}
 use Rattle.holidays.specs.Lines.{Line, without_mark}
 use Rattle.holidays.specs.Nesting.{last_of, all_blank}
@@ -26,7 +26,7 @@ pub record Behind (file : Bytes) (at line i n : ℕ) : Type 0 where
   pub later : at ≤ i
 
 pub record Advances (file : Bytes) (s r : State) : Type 0 where
-  pub behind : Behind file s.at s.line r.at r.line
+  pub behind : Behind file s.place.at s.place.line r.place.at r.place.line
   pub depth : r.depth ≡ s.depth
   pub event : r.event ≡ s.event
   pub start : r.start ≡ s.start
@@ -34,15 +34,15 @@ pub record Advances (file : Bytes) (s r : State) : Type 0 where
   pub count : r.count ≡ s.count
 
 pub record LineState (file stack : List ℕ) (room : ℕ) (map : List ℕ) (st s : State) : Type 0 where
-  pub behind : Behind file st.at st.line s.at s.line
+  pub behind : Behind file st.place.at st.place.line s.place.at s.place.line
   pub keeps : Keeps file stack room map s
 
-unfoldable pub IsLineState : List ℕ → List ℕ → ℕ → List ℕ → State → code.Turn → Type 0
-IsLineState file stack room map st (turn_is.Stops n) = Unit {0}
-IsLineState file stack room map st (turn_is.Goes s) = LineState file stack room map st s
+unfoldable pub IsLineState : List ℕ → List ℕ → ℕ → List ℕ → State → Result State Refusal → Type 0
+IsLineState file stack room map st (Err r) = Unit {0}
+IsLineState file stack room map st (Ok s) = LineState file stack room map st s
 
-pub record Lined (file : Bytes) (st : State) (stack : List ℕ) (room : ℕ) (map : List ℕ) (r : code.Turn) (stack' map' : List ℕ) : Type 0 where
-  pub same : turn_shows file stack' (days_of map') r ≡ turn_of room (record { number = st.line; bytes = ahead file st.at st.line }) (here_of file stack (days_of map) st)
+pub record Lined (file : Bytes) (st : State) (stack : List ℕ) (room : ℕ) (map : List ℕ) (r : Result State Refusal) (stack' map' : List ℕ) : Type 0 where
+  pub same : turn_shows file stack' (days_of map') r ≡ turn_of room (record { number = st.place.line; bytes = ahead file st.place.at st.place.line }) (here_of file stack (days_of map) st)
   pub kept : IsLineState file stack' room map' st r
 
 -- ---- all lines: what is left to answer from here, where `seen` says whether a line was not blank so far
@@ -52,26 +52,26 @@ whole room seen ls h = pick (not seen && all_blank ls) (refused_at_lem ICAL (las
 -- the fuel is for the lines behind this one
 pub record Walking (file : Bytes) (room : ℕ) (stack map : List ℕ) (st : State) (seen : Bool) : Type 0 where
   pub fuel : ℕ
-  pub enough : length file ≤ fuel + st.at
-  pub same : import_of file room ≡ whole room seen (on_cut st.line (cut_at file st.at st.line) (walk fuel)) (here_of file stack (days_of map) st)
-  pub before : Before file st.at st.line
+  pub enough : length file ≤ fuel + st.place.at
+  pub same : import_of file room ≡ whole room seen (on_cut st.place.line (cut_at file st.place.at st.place.line) (walk fuel)) (here_of file stack (days_of map) st)
+  pub before : Before file st.place.at st.place.line
   pub keeps : Keeps file stack room map st
 
-unfoldable pub ended_shows : List ℕ → Ended → Import
-ended_shows xs (ended_is.Refused n l) = refused_at_lem n l
-ended_shows xs (ended_is.Days c) = days xs
+unfoldable pub ended_shows : List ℕ → Result ℕ Fault → Import
+ended_shows xs (Err f) = refused_at_lem (number_of f.refusal) f.line
+ended_shows xs (Ok c) = days xs
 
-unfoldable pub finished : ℕ → Bool → ℕ → ℕ → Ended
-finished depth seen line count = pick (eqb depth 0 && seen) (ended_is.Days count) (ended_is.Refused ICAL line)
+unfoldable pub finished : ℕ → Bool → ℕ → ℕ → Result ℕ Fault
+finished depth seen line count = pick (eqb depth 0 && seen) (Ok count) (Err (record { refusal = Ical; line = line }))
 
-pub record Finishes (depth : ℕ) (seen : Bool) (line count : ℕ) (r : Ended) : Type 0 where
+pub record Finishes (depth : ℕ) (seen : Bool) (line count : ℕ) (r : Result ℕ Fault) : Type 0 where
   pub same : r ≡ finished depth seen line count
 
-unfoldable pub IsEndedCount : ℕ → List ℕ → Ended → Type 0
-IsEndedCount room map (ended_is.Refused n l) = Unit {0}
-IsEndedCount room map (ended_is.Days c) = Counted room c map
+unfoldable pub IsEndedCount : ℕ → List ℕ → Result ℕ Fault → Type 0
+IsEndedCount room map (Err f) = Unit {0}
+IsEndedCount room map (Ok c) = Counted room c map
 
-pub record Walks (file : Bytes) (room : ℕ) (r : Ended) (map : List ℕ) : Type 0 where
+pub record Walks (file : Bytes) (room : ℕ) (r : Result ℕ Fault) (map : List ℕ) : Type 0 where
   pub same : import_of file room ≡ ended_shows (days_of map) r
   pub counted : IsEndedCount room map r
 
@@ -79,7 +79,3 @@ pub record Walks (file : Bytes) (room : ℕ) (r : Ended) (map : List ℕ) : Type
 pub record Starts (file : Bytes) (r : ℕ) : Type 0 where
   pub same : without_mark file ≡ drop r file
   pub inside : r ≤ length file
-
-pub record Cleared (map map' : List ℕ) : Type 0 where
-  pub zeros : (i : ℕ) → get_or map' i 0 ≡ 0
-  pub long : length map' ≡ length map

@@ -19,10 +19,10 @@ pub record Among (n o : ℕ) (map : List ℕ) (d : ℕ) : Type 0 where
   pub high : d < FIRST + o + n
   pub bit : bit_at map (d - FIRST) ≡ true
 
-days_in_lem : (n o : ℕ) (map : List ℕ) (d : ℕ) → d ∈ days_from n o map → Among n o map d
+days_among : (n o : ℕ) (map : List ℕ) (d : ℕ) → d ∈ days_from n o map → Among n o map d
 unfolding days_from pick
-days_in_lem zero o map d h = absurd h
-days_in_lem (suc n) o map d h = go (days_in_lem n (suc o) map d) (bit_at map o) refl h
+days_among zero o map d h = absurd h
+days_among (suc n) o map d h = go (days_among n (suc o) map d) (bit_at map o) refl h
   where
     later : Among n (suc o) map d → Among (suc n) o map d
     later a = record { low = omega (arith, a.low); high = omega (arith, a.high); bit = a.bit }
@@ -58,7 +58,7 @@ days_ascend zero o map = tt
 days_ascend (suc n) o map = go (days_ascend n (suc o) map) (bit_at map o)
   where
     go : Ascending (days_from n (suc o) map) → (x : Bool) → Ascending (pick x ((FIRST + o) ∷ days_from n (suc o) map) (days_from n (suc o) map))
-    go on true = (λ d i. let a = days_in_lem n (suc o) map d i in omega (arith, a.low), on)
+    go on true = (λ d i. let a = days_among n (suc o) map d i in omega (arith, a.low), on)
     go on false = on
 
 pub map_ascends : (map : List ℕ) → Ascending (days_of map)
@@ -67,7 +67,7 @@ map_ascends map = days_ascend DAYS 0 map
 
 map_in : (map : List ℕ) (d : ℕ) → d ∈ days_of map → Among DAYS 0 map d
 unfolding days_of
-map_in map d h = days_in_lem DAYS 0 map d h
+map_in map d h = days_among DAYS 0 map d h
 
 map_has : (map : List ℕ) (d : ℕ) → Among DAYS 0 map d → d ∈ days_of map
 unfolding days_of

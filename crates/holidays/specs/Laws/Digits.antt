@@ -22,9 +22,9 @@ pub record Digits (a b : ℕ) : Type 0 where
   pub second : (leb 48 b && leb b 57) ≡ true
   pub value : pair_of a b ≡ (a - 48) * 10 + (b - 48)
 
-pub are_digits_lem : (a b : ℕ) → (pair_of a b ≡ 100 → ⊥) → Digits a b
+pub pair_digits : (a b : ℕ) → (pair_of a b ≡ 100 → ⊥) → Digits a b
 unfolding pair_of pick
-are_digits_lem a b h = go (leb 48 a && leb a 57) (leb 48 b && leb b 57) refl refl h
+pair_digits a b h = go (leb 48 a && leb a 57) (leb 48 b && leb b 57) refl refl h
   where
     go : (x y : Bool) → (leb 48 a && leb a 57) ≡ x → (leb 48 b && leb b 57) ≡ y → (pick (x && y) ((a - 48) * 10 + (b - 48)) 100 ≡ 100 → ⊥) → Digits a b
     go true true p q i = record { first = p; second = q; value = rw (p, q) }
@@ -143,7 +143,7 @@ day_of_pairs (a ∷ b ∷ c ∷ d ∷ e ∷ []) k = absurd (k.month refl)
 day_of_pairs (a ∷ b ∷ c ∷ d ∷ e ∷ f ∷ []) k = absurd (k.day refl)
 day_of_pairs (a ∷ b ∷ c ∷ d ∷ e ∷ f ∷ g ∷ []) k = absurd (k.day refl)
 day_of_pairs (a ∷ b ∷ c ∷ d ∷ e ∷ f ∷ g ∷ h ∷ s) k =
-    eight_day a b c d e f g h s (are_digits_lem a b k.century) (are_digits_lem c d k.year) (are_digits_lem e f k.month) (are_digits_lem g h k.day)
+    eight_day a b c d e f g h s (pair_digits a b k.century) (pair_digits c d k.year) (pair_digits e f k.month) (pair_digits g h k.day)
 
 -- ---- a time of six digits
 record Six (s : Bytes) : Type 0 where
@@ -193,7 +193,7 @@ clock_by (a ∷ b ∷ c ∷ []) k = absurd (k.minute refl)
 clock_by (a ∷ b ∷ c ∷ d ∷ []) k = absurd (k.second refl)
 clock_by (a ∷ b ∷ c ∷ d ∷ e ∷ []) k = absurd (k.second refl)
 clock_by (a ∷ b ∷ c ∷ d ∷ e ∷ f ∷ s) k =
-    six_clock a b c d e f s (are_digits_lem a b k.hour) (are_digits_lem c d k.minute) (are_digits_lem e f k.second)
+    six_clock a b c d e f s (pair_digits a b k.hour) (pair_digits c d k.minute) (pair_digits e f k.second)
 
 -- a time has six digits
 clock_six : (s : Bytes) → is_clock (take 6 s) ≡ true → Six s
@@ -230,8 +230,8 @@ module _ (s : Bytes) where
   pub no_second : 60 < pair_in (drop 4 s) → is_clock (take 6 s) ≡ false
   no_second h = not_so (is_clock (take 6 s)) (λ e. omega (arith, (clock_within s e).seconds))
 
-  pub is_clock_lem : pair_in s < 24 → pair_in (drop 2 s) < 60 → pair_in (drop 4 s) ≤ 60 → is_clock (take 6 s) ≡ true
-  is_clock_lem h i j =
+  pub clock_is : pair_in s < 24 → pair_in (drop 2 s) < 60 → pair_in (drop 4 s) ≤ 60 → is_clock (take 6 s) ≡ true
+  clock_is h i j =
       clock_by s (record { hour = λ e. omega (arith, h, e); minute = λ e. omega (arith, i, e); second = λ e. omega (arith, j, e) })
       ∙ rw (lt-ltb (pair_in s) 24 h, lt-ltb (pair_in (drop 2 s)) 60 i, le-leb (pair_in (drop 4 s)) 60 j)
 

@@ -7,7 +7,7 @@ use Rattle.std.proofs.Math.ListN.{length}
 use Rattle.refusal.specs.Answer.{given, BOOK, ICAL}
 use Rattle.refusal.specs.Answer as answer
 use Rattle.calendar.specs.Open.{ascending, closed_ok, calendar_ok}
-use Rattle.calendar.specs.Calendar.{sound, check_of}
+use Rattle.calendar.specs.Calendar.{check_of}
 use Rattle.holidays.specs.Words.{Bytes, Course, ended, refused_at, next}
 use Rattle.holidays.specs.Lines.{lines_of}
 use Rattle.holidays.specs.Content.{Content, Name, begin, end, dtstart, dtend, recurring, other}
@@ -115,7 +115,7 @@ module _ (file : Bytes) (room : ℕ) (ds : List ℕ) (h : import_of file room �
       both_true (leb (length ds) 4096) _ (le-leb (length ds) 4096 l) (ascending_true 657072 876216 ds g.ascends (λ d i. ((within d i).0, omega (arith, (within d i).1))))
 
   -- with any mask that leaves a weekday open they are a calendar
-  pub import_checks : (mask : ℕ) → eqb (mask % 128) 127 ≡ false → check_of mask ds ≡ given sound
+  pub import_checks : (mask : ℕ) → eqb (mask % 128) 127 ≡ false → check_of mask ds ≡ given tt
   unfolding check_of calendar_ok answer.need
   import_checks mask e = rw (e, import_closed_ok)
 

@@ -61,9 +61,9 @@ module _ (q : Request) (closed : List ℕ) where
       steps _ (finish_fine q closed m.seed for_convention for_terminal for_month_end m.dates m.flags i.seed i.all) (λ d _. gives _ tt))
 
   module _ (dates flags : ℕ) where
-    of_checks_lem : (first_row (input_rows q closed dates flags) ≡ 0 → ⊥) → of_checks (first_row (input_rows q closed dates flags)) ≡ true
+    first_of_checks : (first_row (input_rows q closed dates flags) ≡ 0 → ⊥) → of_checks (first_row (input_rows q closed dates flags)) ≡ true
     unfolding each_number
-    of_checks_lem h = first_passes of_checks (input_rows q closed dates flags) (ap (each_number of_checks) (in_order q closed dates flags)) h
+    first_of_checks h = first_passes of_checks (input_rows q closed dates flags) (ap (each_number of_checks) (in_order q closed dates flags)) h
 
     pub reason : (n : ℕ) → build_of q closed dates flags ≡ refused n → Reason q closed dates flags n
     unfolding build_of admitted number
@@ -73,4 +73,4 @@ module _ (q : Request) (closed : List ℕ) where
         by zero e x = late e ((steps_fine (min dates 4096) (passed q closed dates flags e)).late n (sym (steps_cut q closed dates) ∙ x))
         by (suc k) e x =
             let s : suc k ≡ n = ap number x in
-            early (e ∙ s) (subst (λ (m : ℕ). of_checks m ≡ true) (e ∙ s) (of_checks_lem (λ z. omega (arith, e, z))))
+            early (e ∙ s) (subst (λ (m : ℕ). of_checks m ≡ true) (e ∙ s) (first_of_checks (λ z. omega (arith, e, z))))

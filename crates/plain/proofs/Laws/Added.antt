@@ -1,23 +1,21 @@
--- Days and months added to a date of the book: none is no step, more are a later date, and there are dates for one tenor more. The candidates of a plain
--- forward request are whole tenors after effective.
+-- Days and months added to a date of the book: none is no step, more are a later date, and there are dates for one tenor more.
 -- Assumes nothing.
-use Rattle.std.specs.Prelude.{ℕ, ◌+◌, ◌*◌, ◌≤◌, ◌<◌, ◌≡◌, refl, true, false}
-use Rattle.std.proofs.Common.{ap, ◌∙◌, arith, add-zero, one-mul, mul_left_comm, leb-true}
+use Rattle.std.specs.Prelude.{ℕ, ◌+◌, ◌*◌, ◌≤◌, ◌<◌, ◌≡◌, true, false}
+use Rattle.std.proofs.Common.{ap, ◌∙◌, arith, add-zero}
 use Rattle.std.proofs.Math.Path.{sym}
 use Rattle.refusal.specs.Answer.{Answer, given}
 use Rattle.period.specs.declared.Unit.{Unit as TimeUnit}
 use Rattle.period.specs.declared.Unit.TheVariants.{Days, Weeks, Months, Years}
 use Rattle.date.specs.Civil.{fields_of}
-use Rattle.date.specs.Date.{SPAN_FIRST, SPAN_LAST, in_book, within_span, step, month_index, in_month, shift_days, shift_months, shifted}
+use Rattle.date.specs.Date.{SPAN_FIRST, SPAN_LAST, in_book, step, month_index, shift_days, shift_months, shifted}
 use Rattle.date.specs.Laws.Round.{fields_valid}
 use Rattle.date.specs.Laws.Moves.{span_in, book_from, book_le}
 use Rattle.date.specs.Laws.Order.{more_months_later}
 use Rattle.imm.specs.Laws.Order.{month_le}
 use Rattle.calendar.specs.Calendar.{longest, tenor_ok}
-use Rattle.steps.specs.Rules.{pace_by}
-use Rattle.steps.specs.Candidates.{seed_of, candidate_by, candidate}
 use Rattle.outcomes.specs.Laws.Span.{InSpan, span_is, day_span, month_span, month_of_lem, month_there, month_zero, since}
 use Rattle.plain.specs.Demand.{counted_in, count_of}
+use Rattle.plain.specs.Laws.Tenor.{short}
 use Rattle.plain.specs.Most.{day_or}
 use Rattle.plain.proofs.Laws.Mirror.{Climb}
 
@@ -84,26 +82,6 @@ module _ (e t n : ℕ) (from : in_book e ≡ true) (order : e ≤ t) (to : in_bo
       early m d c o = omega (arith, months_at m d c, (since t to).1, month_le d t (omega (arith, (span_on e m Months d c).low)) o)
 
 -- ---- tenors
--- the k-th candidate lies k tenors after the date
-pub candidate_on : (n : ℕ) (u : TimeUnit) (e k : ℕ) → candidate false (pace_by n u) (seed_of false e) k ≡ shifted e false (k * n) u
-unfolding candidate candidate_by pace_by seed_of shifted shift_days shift_months
-candidate_on n Days e k = refl
-candidate_on n Weeks e k = ap (λ (x : ℕ). within_span (step false e x)) (mul_left_comm k 7 n)
-candidate_on n Months e k = refl
-candidate_on n Years e k = ap (λ (x : ℕ). in_month (step false (month_index e) x) (fields_of e).day) (mul_left_comm k 12 n)
-
--- whole tenors are whole counts of days or months
-pub counts_on : (n : ℕ) (u : TimeUnit) (e k : ℕ) → shifted e false (k * n) u ≡ shifted e false (k * (count_of u * n)) (counted_in u)
-unfolding shifted
-counts_on n Days e k = ap (λ (x : ℕ). shift_days e false (k * x)) (sym (one-mul n))
-counts_on n Weeks e k = ap (shift_days e false) (sym (mul_left_comm k 7 n))
-counts_on n Months e k = ap (λ (x : ℕ). shift_months e false (k * x)) (sym (one-mul n))
-counts_on n Years e k = ap (shift_months e false) (sym (mul_left_comm k 12 n))
-
-short : (n : ℕ) (u : TimeUnit) → tenor_ok n u ≡ true → n ≤ longest u
-unfolding tenor_ok
-short n u h = leb-true n (longest u) h
-
 pub climb_of : (e t n : ℕ) (u : TimeUnit) → in_book e ≡ true → e ≤ t → in_book t ≡ true → tenor_ok n u ≡ true → Climb (λ x. shifted e false x (counted_in u)) e t (count_of u * n)
 unfolding longest
 climb_of e t n Days a o b h = days_climb e t (1 * n) a o b (omega (arith, short n Days h))

@@ -18,14 +18,14 @@ use Rattle.steps.specs.Laws.Entries.{NothingAdjusts, twice, with_its_dates}
 use Rattle.steps.specs.Laws.Farthest.{same_dates}
 use Rattle.plain.specs.Forward.{under}
 use Rattle.plain.specs.Agree.{Whole, EarlyDay, SameDay, Evenly, Direction, forward, backward, SameButRule, AgreeInMemory, EvenlyWritten, BothEvenlyInMemory}
-use Rattle.plain.proofs.Laws.Memory.{tenor_under_lem, outcome, kept_of, untouched}
-use Rattle.plain.proofs.Laws.AgreeProved.{rule_of_lem, early_same, both_agree_wider, both_evenly_wider}
+use Rattle.plain.proofs.Laws.Memory.{tenor_by_rule, outcome, kept_of, untouched}
+use Rattle.plain.proofs.Laws.AgreeProved.{rule_asked, early_same, both_agree_wider, both_evenly_wider}
 
 module _ (q : Request) (k : ℕ) (w : Whole q k) where
-  tenor_of_lem : (rule : Rule) → Direction rule → tenor_in_force (under rule q) ≡ q.tenor
+  tenor_asked : (rule : Rule) → Direction rule → tenor_in_force (under rule q) ≡ q.tenor
   unfolding tenor_under is_zero one_of rule_number
-  tenor_of_lem rule forward = tenor_under_lem (under Forward q) Forward (rule_of_lem q k w Forward)
-  tenor_of_lem rule backward = tenor_under_lem (under Backward q) Backward (rule_of_lem q k w Backward)
+  tenor_asked rule forward = tenor_by_rule (under Forward q) Forward (rule_asked q k w Forward)
+  tenor_asked rule backward = tenor_by_rule (under Backward q) Backward (rule_asked q k w Backward)
 
   nothing_adjusts : (rule : Rule) → NothingAdjusts (under rule q)
   nothing_adjusts rule = record { convention = w.unadjusted; terminal = w.unadjusted_last; no_month_end = w.no_month_end }
@@ -39,12 +39,12 @@ module _ (q : Request) (k : ℕ) (w : Whole q k) where
   same_answer : (moved : ℕ) (o : Answer Schedule) → SameButRule (answered (under Forward q) moved o) (answered (under Backward q) moved o)
   unfolding answered
   same_answer moved (refused n) = record { number = refl; count = refl; tries = refl; tenor = refl; moved = refl }
-  same_answer moved (given s) = record { number = refl; count = refl; tries = refl; tenor = tenor_of_lem Forward forward ∙ sym (tenor_of_lem Backward backward); moved = refl }
+  same_answer moved (given s) = record { number = refl; count = refl; tries = refl; tenor = tenor_asked Forward forward ∙ sym (tenor_asked Backward backward); moved = refl }
 
   written_evenly : {r : Built} {dates flags unadjusted dates' flags' unadjusted' : List ℕ} (rule : Rule) → Direction rule → (s : Schedule) → Evenly q k s → Written (under rule q) (twice s) r dates flags unadjusted dates' flags' unadjusted' → EvenlyWritten q k rule r dates flags unadjusted dates' flags' unadjusted'
   unfolding answered dates_after flags_after unadjusted_after paid_of moved_of then over
   written_evenly {r} {dates} {flags} {unadjusted} rule d s e v = record {
-    answer = v.answer ∙ (λ i. record { number = 0; count = e.dates.count i; tries = e.tries i; rule = rule_of_lem q k w rule i; tenor = tenor_of_lem rule d i; moved = same_dates s.dates i });
+    answer = v.answer ∙ (λ i. record { number = 0; count = e.dates.count i; tries = e.tries i; rule = rule_asked q k w rule i; tenor = tenor_asked rule d i; moved = same_dates s.dates i });
     its_dates = s.dates;
     even = e.dates;
     dates_then = v.dates_after_lem ∙ ap (λ (x : ℕ). s.dates ++ drop x dates) e.dates.count;

@@ -6,6 +6,7 @@ use Rattle.std.proofs.Common.{sym, ◌∙◌, subst, inl, inr, ⊎_elim, le_refl
 use Rattle.std.proofs.Math.Nat.{sub-zero}
 use Rattle.std.proofs.lemmas.List.{get_or-replicate}
 use borrow.Author.Tests.{ne_eqb, le-ltb}
+use Rattle.std.proofs.lemmas.List.{append-nil}
 use Rattle.refusal.specs.Answer.{Answer, given, refused, ROOM}
 use Rattle.refusal.specs.Laws.Answers.{one_given}
 use Rattle.period.specs.declared.Unit.{Unit as TimeUnit}
@@ -29,16 +30,16 @@ use Rattle.plain.specs.Agree.{Whole, InMonths, EarlyDay, SameDay, BothAgree, Eve
 use Rattle.plain.specs.Laws.Chain.{ones, chain, chain_length, chain_at}
 use Rattle.plain.specs.Most.{day_or}
 use Rattle.plain.specs.Laws.Falling.{due_list}
-use Rattle.plain.proofs.Laws.Rising.{one_more, no_rest, Rises, GeneratedOn}
-use Rattle.plain.proofs.Laws.Added.{days_at, months_at, counts_on, climb_of}
-use Rattle.plain.specs.Laws.Tenor.{positive_size, some_count, counts_are}
+use Rattle.plain.proofs.Laws.Rising.{one_more, Rises, GeneratedOn}
+use Rattle.plain.proofs.Laws.Added.{days_at, months_at, climb_of}
+use Rattle.plain.specs.Laws.Tenor.{positive_size, some_count, counts_by}
 use Rattle.plain.specs.Laws.Walked.{line, owed_list}
 use Rattle.plain.specs.Laws.Checks.{passed}
 use Rattle.plain.proofs.Laws.Onward.{passes_under, climb, plain_back, tenors_rise, generated_on}
 use Rattle.plain.proofs.Laws.Proved.{demand_3, owed_once, most_once}
 use Rattle.plain.proofs.Laws.ForwardProved.{demand_on}
 use Rattle.plain.proofs.Laws.Settled.{told}
-use Rattle.plain.proofs.Laws.Formula.{owed_list_lem, count_is}
+use Rattle.plain.proofs.Laws.Formula.{owed_list_owed, count_is}
 
 -- ---- the day of the month
 -- that of so many months on or back is the same, or the last of a month of 28 days or more
@@ -60,14 +61,14 @@ clamped Years i back n x r h = by_months back n (12 * x) r h
 -- a day of at most 28 is kept
 pub early_same : (q : Request) (k : ℕ) → Whole q k → EarlyDay q → SameDay q
 early_same q k w h i =
-    let l = clamped q.tenor.unit i false q.effective.day _ _ w.leads in
+    let l = clamped q.tenor.unit i false q.effective _ _ w.leads in
     omega (arith, l.1, l.2, h i)
 
 -- one that leads back was kept
-returns : (q : Request) (k : ℕ) → Whole q k → LiesSo q q.effective.day → SameDay q
+returns : (q : Request) (k : ℕ) → Whole q k → LiesSo q q.effective → SameDay q
 returns q k w o i =
-    let l = clamped q.tenor.unit i false q.effective.day _ _ w.leads in
-    let m = clamped q.tenor.unit i true q.termination.day _ _ o.1 in
+    let l = clamped q.tenor.unit i false q.effective _ _ w.leads in
+    let m = clamped q.tenor.unit i true q.termination _ _ o.1 in
     omega (arith, l.2, m.2)
 
 -- effective plus x days or months is termination less what is left of them
@@ -119,10 +120,10 @@ module _ {q : Request} {k : ℕ} where
 
 module _ (q : Request) (k : ℕ) (w : Whole q k) where
   abbrev e : ℕ
-  e = q.effective.day
+  e = q.effective
 
   abbrev t : ℕ
-  t = q.termination.day
+  t = q.termination
 
   abbrev n : ℕ
   n = tenor_count q
@@ -140,19 +141,19 @@ module _ (q : Request) (k : ℕ) (w : Whole q k) where
   some_units = some_count q.tenor.unit (tenor_length q) some_length
 
   total : added q (k * n) ≡ given t
-  total = sym (counts_on (tenor_length q) q.tenor.unit e k) ∙ w.leads
+  total = sym (counts_by false (tenor_length q) q.tenor.unit e k) ∙ w.leads
 
   whole_part : k * n / n ≡ k
   whole_part = mul-div_cancel k some_units
 
   -- ---- the input checks read neither rule
-  pub rule_of_lem : (rule : Rule) → rule_in_force (under rule q) ≡ rule
+  pub rule_asked : (rule : Rule) → rule_in_force (under rule q) ≡ rule
   unfolding rule_in_force rule_under is_none
-  rule_of_lem rule = rw (ne_eqb (tenor_length q) 0 (λ h. omega (arith, some_length))) refl
+  rule_asked rule = rw (ne_eqb (tenor_length q) 0 (λ h. omega (arith, some_length))) refl
 
   same_rows : (closed : List ℕ) (dates flags : ℕ) → input_rows forth closed dates flags ≡ input_rows back closed dates flags
   unfolding input_rows rows_under first_rows last_rows anchor_rows out_of_range not_imm wrong_rule by_range by_imm one_of rule_number dates_ok first_outside last_outside monthend_allowed short_end is_zero
-  same_rows closed dates flags = rw (rule_of_lem Forward, rule_of_lem Backward) refl
+  same_rows closed dates flags = rw (rule_asked Forward, rule_asked Backward) refl
 
   module _ (closed : List ℕ) (dates flags : ℕ) (c : Passes q closed dates flags) where
     pass : (rule : Rule) → Passes (under rule q) closed dates flags
@@ -202,7 +203,7 @@ module _ (q : Request) (k : ℕ) (w : Whole q k) where
     forward_given : (s : Schedule) → AcceptedOn forth g.dates (k * n) s → Evenly q k s
     forward_given s a = record {
       dates = subst (EvenDates q k) (sym a.dates) (record { count = size; places = λ i h. there i h ∙ ap given (sym (g.places i h)) });
-      flags = a.flags.all_flags ∙ ap (λ (x : ℕ). ones (length g.dates - 2) ++ (x ∷ [])) (last_one a.flags.last a.flags.last_flag) ∙ one_more (length g.dates - 2) [] ∙ no_rest (suc (length g.dates - 2)) ∙ ones_k g.dates size;
+      flags = a.flags.all_flags ∙ ap (λ (x : ℕ). ones (length g.dates - 2) ++ (x ∷ [])) (last_one a.flags.last a.flags.last_flag) ∙ one_more (length g.dates - 2) [] ∙ append-nil (ones (suc (length g.dates - 2))) ∙ ones_k g.dates size;
       tries = a.tries ∙ omega (arith, whole_part);
     }
 
@@ -219,16 +220,16 @@ module _ (q : Request) (k : ℕ) (w : Whole q k) where
 
       met : (i : ℕ) → i ≤ k → tenors_before q (k - i) ≡ tenors_after q i
       met i h =
-          counts_are (tenor_length q) q.tenor.unit t (k - i)
+          counts_by true (tenor_length q) q.tenor.unit t (k - i)
           ∙ ap (taken q) (split i h)
           ∙ across e t (k * n) (i * n) c.effective_in_book (mul-le-mul_right {m = i} {n = k} n h) q.tenor.unit same total
-          ∙ sym (counts_on (tenor_length q) q.tenor.unit e i)
+          ∙ sym (counts_by false (tenor_length q) q.tenor.unit e i)
 
       before_k : tenors_before q k ≡ given e
       before_k = ap (tenors_before q) (sym (sub-zero k)) ∙ met 0 (omega arith) ∙ rises.start
 
       back_total : taken q (k * n) ≡ given e
-      back_total = sym (counts_are (tenor_length q) q.tenor.unit t k) ∙ before_k
+      back_total = sym (counts_by true (tenor_length q) q.tenor.unit t k) ∙ before_k
 
       most_back : Most back (k * n)
       most_back = record { day = e; can_be_taken = back_total; not_passing = le_refl _; no_more = λ x d h o. ⊎_elim (λ (l : x ≤ k * n). l) (λ (l : k * n < x). absurd (no x d h o l)) (le_or_lt x (k * n)) }
@@ -250,7 +251,7 @@ module _ (q : Request) (k : ℕ) (w : Whole q k) where
       backward_dates = rw list_is (record { count = chain_length from k; places = λ i h. there i h ∙ ap given (sym (chain_at from k i h ∙ ap day_or (met i h))) })
 
       owed : Owed back ds
-      owed = owed_list_lem back closed dates flags plain (pass Backward) (k * n) most_back
+      owed = owed_list_owed back closed dates flags plain (pass Backward) (k * n) most_back
 
       backward_given : (s : Schedule) → Accepted back ds (k * n) s → Evenly q k s
       backward_given s a = record {

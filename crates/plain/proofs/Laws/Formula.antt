@@ -15,12 +15,12 @@ use Rattle.plain.proofs.Laws.Proved.{first_is, demand_3}
 use Rattle.plain.proofs.Laws.Settled.{same_first}
 
 module _ (q : Request) (closed : List ℕ) (dates flags : ℕ) (p : Plain q) (c : Passes q closed dates flags) (m : ℕ) (w : Most q m) where
-  abbrev g : GeneratedBack q.effective.day q.termination.day (min dates 4096) (tenors_before q) (m / tenor_count q) (generate q closed (min dates 4096))
+  abbrev g : GeneratedBack q.effective q.termination (min dates 4096) (tenors_before q) (m / tenor_count q) (generate q closed (min dates 4096))
   g = generated q p closed dates flags c m w (min dates 4096)
 
-  pub owed_list_lem : Owed q (owed_list q m)
+  pub owed_list_owed : Owed q (owed_list q m)
   unfolding owed_list
-  owed_list_lem = subst (Owed q) g.made g.lists
+  owed_list_owed = subst (Owed q) g.made g.lists
 
   -- the dates number as many as the tries, and one more where the first period is irregular
   pub count_is : (ds : List ℕ) → Owed q ds → (flag : ℕ) → FirstFlag q flag → length ds + flag ≡ m / tenor_count q + 2
@@ -38,14 +38,14 @@ module _ (q : Request) (closed : List ℕ) (dates flags : ℕ) (p : Plain q) (c 
       }
 
   kept : Kept q dates (owed_list q m) m (build_of q closed dates flags)
-  kept = demand_3 q closed dates flags p c (owed_list q m) owed_list_lem m w
+  kept = demand_3 q closed dates flags p c (owed_list q m) owed_list_owed m w
 
   pub given_by : length (owed_list q m) ≤ dates → length (owed_list q m) ≤ 4096 → build_of q closed dates flags ≡ given outcome
   given_by h i =
       let s = kept.accepted_else (⊎_elim (λ (x : dates < length (owed_list q m)). omega arith) (λ (x : 4096 < length (owed_list q m)). omega arith)) in
       let a : Accepted q (owed_list q m) m s.0 = s.2 in
       let f : Flagged q (owed_list q m) s.0.flags = a.flags in
-      let e : f.first ≡ m / tenor_count q + 2 - length (owed_list q m) = omega (arith, count_is (owed_list q m) owed_list_lem f.first f.first_flag) in
+      let e : f.first ≡ m / tenor_count q + 2 - length (owed_list q m) = omega (arith, count_is (owed_list q m) owed_list_owed f.first f.first_flag) in
       let l : s.0.flags ≡ outcome.flags = f.all_flags ∙ ap (λ (x : ℕ). x ∷ replicate (length (owed_list q m) - 2) 1) e in
       s.1 ∙ (λ i. given (record { dates = a.dates i; flags = l i; tries = a.tries i }))
 

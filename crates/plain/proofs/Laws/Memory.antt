@@ -22,9 +22,9 @@ use Rattle.plain.proofs.Laws.Onward.{rule_on}
 use Rattle.plain.proofs.Laws.Proved.{demand_3}
 use Rattle.plain.proofs.Laws.ForwardProved.{demand_on}
 
-pub tenor_under_lem : (q : Request) (rule : Rule) → rule_in_force q ≡ rule → tenor_in_force q ≡ tenor_under (is_zero rule) q.tenor
+pub tenor_by_rule : (q : Request) (rule : Rule) → rule_in_force q ≡ rule → tenor_in_force q ≡ tenor_under (is_zero rule) q.tenor
 unfolding tenor_in_force
-tenor_under_lem q rule e = rw e
+tenor_by_rule q rule e = rw e
 
 -- what a build with three lists of one length comes to, from what 01's build does
 pub outcome : (q : Request) → NothingAdjusts q → (closed : List ℕ) (dates flags unadjusted : ℕ) → dates ≡ unadjusted → (o : Answer Schedule) → build_of q closed dates flags ≡ o → entries_of q closed dates flags unadjusted ≡ then o twice
@@ -56,7 +56,7 @@ module _ {q : Request} {r : Built} {dates flags unadjusted dates' flags' unadjus
     count = ap (λ (b : Built). b.count) w.answer ∙ ap (λ (l : List ℕ). length l) t.dates;
     tries = ap (λ (b : Built). b.tries) w.answer ∙ t.tries;
     rule = ap (λ (b : Built). b.rule) w.answer ∙ rule_is q p;
-    tenor = ap (λ (b : Built). b.tenor) w.answer ∙ tenor_under_lem q Backward (rule_is q p);
+    tenor = ap (λ (b : Built). b.tenor) w.answer ∙ tenor_by_rule q Backward (rule_is q p);
     moved = ap (λ (b : Built). b.moved) w.answer ∙ same_dates s.dates;
     dates_then = w.dates_after_lem ∙ ap (λ (l : List ℕ). l ++ drop (length l) dates) t.dates;
     its_flags = s.flags;
@@ -68,7 +68,7 @@ module _ {q : Request} {r : Built} {dates flags unadjusted dates' flags' unadjus
   written_on : PlainForward q → (ds : List ℕ) (m : ℕ) (s : Schedule) → Written q (twice s) r dates flags unadjusted dates' flags' unadjusted' → AcceptedOn q ds m s → WrittenOn q ds m r dates flags unadjusted dates' flags' unadjusted'
   unfolding answered dates_after flags_after unadjusted_after paid_of moved_of then over tenor_under is_zero one_of rule_number
   written_on p ds m s w t = record {
-    answer = w.answer ∙ (λ i. record { number = 0; count = length (t.dates i); tries = t.tries i; rule = rule_on q p i; tenor = tenor_under_lem q Forward (rule_on q p) i; moved = same_dates s.dates i });
+    answer = w.answer ∙ (λ i. record { number = 0; count = length (t.dates i); tries = t.tries i; rule = rule_on q p i; tenor = tenor_by_rule q Forward (rule_on q p) i; moved = same_dates s.dates i });
     dates_then = w.dates_after_lem ∙ ap (λ (l : List ℕ). l ++ drop (length l) dates) t.dates;
     its_flags = s.flags;
     flagged = t.flags;

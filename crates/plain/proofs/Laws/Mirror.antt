@@ -31,8 +31,8 @@ as_given : (a : Answer ℕ) (d : ℕ) → a ≡ given d → mirrored a ≡ given
 unfolding mirrored
 as_given a d e = rw e refl
 
-day_of_lem : (a : Answer ℕ) (d : ℕ) → a ≡ given d → day_or (mirrored a) ≡ 2000000 - d
-day_of_lem a d e = ap day_or (as_given a d e)
+mirrored_day : (a : Answer ℕ) (d : ℕ) → a ≡ given d → day_or (mirrored a) ≡ 2000000 - d
+mirrored_day a d e = ap day_or (as_given a d e)
 
 -- what is asked of a count: none is no step, more are a later date, one tenor beyond termination there still are dates, the book has fewer than
 -- 110,000 days, and no date is later than the span
@@ -107,6 +107,6 @@ module _ (after : ℕ → Answer ℕ) (e t n : ℕ) (pos : 1 ≤ n) (order : e �
       start = same 0 ∙ ap after (zero-mul n) ∙ l.start;
       up = λ i k a b h p p'. omega (arith, falls.down i k (2000000 - a) (2000000 - b) h (as_given (cand i) a p) (as_given (cand k) b p'));
       there = there;
-      high = omega (arith, falls.low, day_of_lem (cand (m / n)) _ (there (m / n) (omega arith)));
-      beyond = omega (arith, falls.high, day_of_lem (cand (suc (m / n))) _ (there (suc (m / n)) (omega arith)));
+      high = omega (arith, falls.low, mirrored_day (cand (m / n)) _ (there (m / n) (omega arith)));
+      beyond = omega (arith, falls.high, mirrored_day (cand (suc (m / n))) _ (there (suc (m / n)) (omega arith)));
     }

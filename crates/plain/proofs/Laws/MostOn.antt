@@ -65,9 +65,9 @@ module _ (e x : ℕ) (from : in_book e ≡ true) (order : e ≤ x) (to : in_book
           same : y ≡ gap → ⊥
           same z = let u : d ≡ on gap = ap day_or (sym g) ∙ ap on z in omega (arith, past)
 
-  pub most_on_by_lem : (u : TimeUnit) → MostAdded (λ y. shifted e false y (counted_in u)) x (most_on_by u e x)
+  pub most_on_sum : (u : TimeUnit) → MostAdded (λ y. shifted e false y (counted_in u)) x (most_on_by u e x)
   unfolding most_on_by months_between
-  most_on_by_lem Days = by_days
-  most_on_by_lem Weeks = by_days
-  most_on_by_lem Months = by_months _ refl
-  most_on_by_lem Years = by_months _ refl
+  most_on_sum Days = by_days
+  most_on_sum Weeks = by_days
+  most_on_sum Months = by_months _ refl
+  most_on_sum Years = by_months _ refl

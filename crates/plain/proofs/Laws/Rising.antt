@@ -4,21 +4,23 @@ use Rattle.std.specs.Prelude.{ℕ, zero, suc, ◌+◌, ◌-◌, ◌≤◌, ◌<�
 use Rattle.std.proofs.Common.{zero-le, sym, ◌∙◌, subst, inl, inr, not-suc-le-zero, eq-or-lt_of_le, zero-add, arith}
 use Rattle.std.proofs.Math.Path.{ap}
 use Rattle.std.proofs.Math.Logic.{⊎_elim}
+use Rattle.std.proofs.lemmas.List.{append-nil}
 use mathlib.Core.List.{List, [], ◌∷◌, ◌++◌, reverse, reverse_aux}
-use borrow.Author.Tests.{lt-ltb, le-ltb, ne_eqb}
+use borrow.Author.Tests.{lt-ltb, le-ltb}
 use Rattle.std.proofs.Math.ListN.{length-reverse_aux}
 use Rattle.refusal.specs.Answer.{Answer, given, refused, then, ROOM}
 use Rattle.date.specs.Date.{SPAN_FIRST, SPAN_LAST}
 use Rattle.calendar.specs.declared.Convention.TheVariants.{Unadjusted}
 use Rattle.steps.specs.declared.Pace.{Pace}
 use Rattle.steps.specs.declared.Seed.{Seed}
-use Rattle.steps.specs.Candidates.{Turn, past, keep, candidate, is_past, unless_past, unless_same, turn_of}
-use Rattle.steps.specs.Generate.{Walk, Made, nothing, newest, onto, put, put_new, made_forth, last_try, walk}
+use Rattle.steps.specs.Candidates.{Turn, past, keep, candidate, is_past, turn_of}
+use Rattle.steps.specs.Generate.{Lists, Made, nothing, onto, put, put_new, made_forth, last_try, walk}
 use Rattle.outcomes.specs.Laws.Span.{le_or_lt, InSpan}
 use Rattle.plain.specs.Listed.{◌∈◌, Ascending}
 use Rattle.plain.specs.Listed as listed
-use Rattle.plain.specs.Laws.Chain.{ones, chain, chain_length, chain_first, in_chain, from_chain, linked, put_fits, put_full, walk_fits, walk_full}
-use Rattle.plain.specs.Laws.Turns.{stays, new_same, new_put}
+use Rattle.plain.specs.Laws.Chain.{ones, chain, chain_length, in_chain, from_chain, linked}
+use Rattle.plain.specs.Laws.Turns.{candidate_keeps, candidate_ends}
+use Rattle.plain.specs.Laws.Ended as ended
 use Rattle.plain.specs.Most.{day_or}
 use Rattle.plain.specs.Forward.{OneOrMore, DueOn, effective, between, termination}
 
@@ -69,15 +71,11 @@ ones_turned : (n : ℕ) (r : List ℕ) → reverse_aux (ones n) r ≡ ones n ++ 
 ones_turned zero r = refl
 ones_turned (suc n) r = ones_turned n (1 ∷ r) ∙ one_more n r
 
-pub no_rest : (n : ℕ) → ones n ++ [] ≡ ones n
-no_rest zero = refl
-no_rest (suc n) = ap (λ (xs : List ℕ). 1 ∷ xs) (no_rest n)
-
 -- the flags of n dates: the last period's mark behind those of the others
 own_flags : (j n : ℕ) → 1 ≤ j → n ≡ j + 1 → drop 1 (reverse (ones (suc j))) ≡ ones (n - 2) ++ (1 ∷ [])
 own_flags j n h e =
     let x : j ≡ suc (n - 2) = omega arith in
-    ap (drop 1) (ones_turned (suc j) []) ∙ no_rest j ∙ ap ones x ∙ sym (one_more (n - 2) [] ∙ no_rest (suc (n - 2)))
+    ap (drop 1) (ones_turned (suc j) []) ∙ append-nil (ones j) ∙ ap ones x ∙ sym (one_more (n - 2) [] ∙ append-nil (ones (suc (n - 2))))
 
 end_flags : (j n : ℕ) → n ≡ j + 2 → drop 1 (reverse (0 ∷ ones (suc j))) ≡ ones (n - 2) ++ (0 ∷ [])
 end_flags j n e =
@@ -111,16 +109,6 @@ pub record Rises (cand : ℕ → Answer ℕ) (e t j : ℕ) : Type 0 where
   pub there : (k : ℕ) → k ≤ suc j → cand k ≡ given (day_or (cand k))
   pub high : day_or (cand j) ≤ t
   pub beyond : t < day_or (cand (suc j))
-
--- what a candidate does
-module _ (mask : ℕ) (closed : List ℕ) (pace : Pace) (seed : Seed) (exit front k day : ℕ) (c : candidate false pace seed k ≡ given day) where
-  turn_keeps : day ≤ exit → InSpan front → InSpan day → (front ≡ day → ⊥) → turn_of mask closed Unadjusted false pace seed exit front k ≡ given (keep day)
-  unfolding turn_of is_past unless_past unless_same then
-  turn_keeps h s s' n = rw (c, le-ltb exit day h, stays mask closed front s, stays mask closed day s', ne_eqb front day n)
-
-  turn_ends : exit < day → turn_of mask closed Unadjusted false pace seed exit front k ≡ given past
-  unfolding turn_of is_past unless_past then
-  turn_ends h = rw (c, lt-ltb exit day h)
 
 module _
     (mask : ℕ) (closed : List ℕ) (pace : Pace) (seed : Seed) (room e t j : ℕ) (f : Rises (candidate false pace seed) e t j)
@@ -163,61 +151,40 @@ module _
     apart k h q = omega (arith, rises k (suc k) (omega arith) (omega arith))
 
     keeps : (i : ℕ) → i < j → turn (line i) (suc i) ≡ given (keep (line (suc i)))
+    unfolding is_past
     keeps i h =
-        turn_keeps mask closed pace seed t (line i) (suc i) (line (suc i)) (f.there (suc i) (omega arith)) (omega (arith, below (suc i) h, f.high)) (span i (omega arith)) (span (suc i) h) (apart i h)
+        candidate_keeps mask closed false pace seed t (line i) (suc i) (line (suc i)) (f.there (suc i) (omega arith)) (le-ltb t (line (suc i)) (omega (arith, below (suc i) h, f.high))) (span i (omega arith)) (span (suc i) h) (apart i h)
 
     stops : turn (line j) (suc j) ≡ given past
-    stops = turn_ends mask closed pace seed t (line j) (suc j) (line (suc j)) (f.there (suc j) (omega arith)) f.beyond
+    unfolding is_past
+    stops = candidate_ends mask closed false pace seed t (line j) (suc j) (line (suc j)) (f.there (suc j) (omega arith)) (lt-ltb t (line (suc j)) f.beyond)
 
-    -- ---- the loop
+    -- ---- the loop, and termination behind it
     abbrev built : Answer Made
     built = from_effective mask closed pace seed room e t
 
-    abbrev closes : Answer Walk → Answer Made
-    closes o = then o (λ w. then (put_new mask closed Unadjusted room t t 0 w.lists) (λ m. given (made_forth w.tries e m)))
+    abbrev made : ℕ → Lists → Made
+    made tries l = made_forth tries e l
 
-    none : room ≡ 0 → built ≡ refused ROOM
-    unfolding from_effective then
-    none h = rw (put_full room e 1 nothing (omega arith))
-
-    begins : 0 < room → built ≡ closes (walk turn room last_try 1 (linked line 0))
-    unfolding from_effective then
-    begins h =
-        let p : walk turn room last_try 1 (onto e 1 nothing) ≡ walk turn room last_try 1 (linked line 0) = ap (λ (x : ℕ). walk turn room last_try 1 (onto x 1 nothing)) (sym line_0) in
-        rw (put_fits room e 1 nothing h) (ap closes p)
-
-    abbrev last : Answer Made
-    last = then (put_new mask closed Unadjusted room t t 0 (linked line j)) (λ m. given (made_forth (suc j) e m))
-
-    fits : j < room → built ≡ last
-    unfolding then
-    fits h = begins (omega arith) ∙ rw (walk_fits turn line room j keeps stops last_try few h)
+    is_through : built ≡ ended.through mask closed room e t turn made
+    unfolding from_effective
+    is_through = refl
 
     over : room ≤ j → built ≡ refused ROOM
-    unfolding then
-    over h =
-        ⊎_elim (λ (p : 0 ≡ room). none (sym p))
-        (λ (p : 0 < room). begins p ∙ rw (walk_full turn line room j keeps stops last_try (omega arith) p h))
-        (eq-or-lt_of_le zero-le)
+    over h = is_through ∙ ended.over mask closed room e t turn made line j line_0 keeps stops few (span j (omega arith)) last_span h
 
-    -- ---- termination
-    front_span : InSpan (newest (linked line j))
-    front_span = rw (chain_first line j) (span j (omega arith))
+    on_met : line j ≡ t → j < room → built ≡ given (made (suc j) (linked line j))
+    on_met q h = is_through ∙ ended.met mask closed room e t turn made line j line_0 keeps stops few (span j (omega arith)) last_span q h
 
-    last_same : line j ≡ t → last ≡ given (made_forth (suc j) e (linked line j))
-    unfolding then
-    last_same q = rw (new_same mask closed room t (linked line j) front_span last_span (chain_first line j ∙ q))
+    module _ (q : line j < t) where
+      other : line j ≡ t → ⊥
+      other h = omega arith
 
-    other : line j < t → newest (linked line j) ≡ t → ⊥
-    other q h = omega (arith, chain_first line j)
+      on_unmet : suc j < room → built ≡ given (made (suc j) (onto t 0 (linked line j)))
+      on_unmet h = is_through ∙ ended.unmet mask closed room e t turn made line j line_0 keeps stops few (span j (omega arith)) last_span other h
 
-    last_put_lem : line j < t → suc j < room → last ≡ given (made_forth (suc j) e (onto t 0 (linked line j)))
-    unfolding then
-    last_put_lem q h = rw (new_put mask closed room t (linked line j) front_span last_span (other q), put_fits room t 0 (linked line j) (omega (arith, chain_length line j)))
-
-    last_full : line j < t → room ≤ suc j → last ≡ refused ROOM
-    unfolding then
-    last_full q h = rw (new_put mask closed room t (linked line j) front_span last_span (other q), put_full room t 0 (linked line j) (omega (arith, chain_length line j)))
+      on_full : room ≤ suc j → built ≡ refused ROOM
+      on_full h = is_through ∙ ended.full mask closed room e t turn made line j line_0 keeps stops few (span j (omega arith)) last_span other h
 
     -- ---- what is in the list
     far : (k d : ℕ) → cand k ≡ given d → j < k → t < d
@@ -256,7 +223,7 @@ module _
       flag = 1;
       count = omega (arith, size);
       last_flag = inl (refl, record { count = j; some = some; lies = f.there j (omega arith) ∙ ap given q });
-      accepted = λ h. fits (omega (arith, size)) ∙ last_same q ∙ ap (λ (x : List ℕ). given (record { dates = reverse (chain line j); flags = x; tries = suc j; seed = e })) (own_flags j (length (reverse (chain line j))) some (omega (arith, size)));
+      accepted = λ h. on_met q (omega (arith, size)) ∙ ap (λ (x : List ℕ). given (record { dates = reverse (chain line j); flags = x; tries = suc j; seed = e })) (own_flags j (length (reverse (chain line j))) some (omega (arith, size)));
       refuses = λ h. over (omega (arith, size));
     }
       where
@@ -287,8 +254,8 @@ module _
       flag = 0;
       count = omega (arith, size);
       last_flag = inr (refl, no_candidate);
-      accepted = λ h. fits (omega (arith, size)) ∙ last_put_lem q (omega (arith, size)) ∙ ap (λ (x : List ℕ). given (record { dates = reverse (t ∷ chain line j); flags = x; tries = suc j; seed = e })) (end_flags j (length (reverse (t ∷ chain line j))) (omega (arith, size)));
-      refuses = λ h. full h;
+      accepted = λ h. on_unmet q (omega (arith, size)) ∙ ap (λ (x : List ℕ). given (record { dates = reverse (t ∷ chain line j); flags = x; tries = suc j; seed = e })) (end_flags j (length (reverse (t ∷ chain line j))) (omega (arith, size)));
+      refuses = λ h. on_full q (omega (arith, size));
     }
       where
         size : length (reverse (t ∷ chain line j)) ≡ j + 2
@@ -304,9 +271,6 @@ module _
 
         no_candidate : OneOrMore cand t → ⊥
         no_candidate o = ⊎_elim (λ (p : o.count ≤ j). let x : line o.count ≡ t = ap day_or o.lies in omega (arith, below o.count p)) (λ (p : j < o.count). omega (arith, far o.count t o.lies p)) (le_or_lt o.count j)
-
-        full : room < length (reverse (t ∷ chain line j)) → built ≡ refused ROOM
-        full h = ⊎_elim (λ (p : room ≤ j). over p) (λ (p : j < room). fits p ∙ last_full q (omega (arith, size))) (le_or_lt room j)
 
     pub rising : GeneratedOn e t room cand j built
     rising = ⊎_elim (λ (q : line j ≡ t). met q) (λ (q : line j < t). unmet q) (eq-or-lt_of_le f.high)

@@ -1,22 +1,24 @@
 -- What a backward build generates where its candidates fall and nothing is adjusted: the dates owed, over any candidates.
 -- Assumes nothing.
-use Rattle.std.specs.Prelude.{ℕ, zero, suc, ◌+◌, ◌-◌, ◌≤◌, ◌<◌, ◌≡◌, refl, ◌⊎◌, Bool, true, false, List, ◌∷◌, ltb, length, take, replicate}
-use Rattle.std.proofs.Common.{zero-le, sym, ◌∙◌, subst, inl, inr, not-suc-le-zero, eq-or-lt_of_le, arith, lt-ltb, le-ltb}
+use Rattle.std.specs.Prelude.{ℕ, suc, ◌+◌, ◌-◌, ◌≤◌, ◌<◌, ◌≡◌, refl, ◌⊎◌, Bool, true, false, List, ◌∷◌, ltb, length, take, replicate}
+use Rattle.std.proofs.Common.{zero-le, sym, ◌∙◌, subst, inl, inr, eq-or-lt_of_le, arith, lt-ltb, le-ltb}
 use Rattle.std.proofs.Math.Path.{ap}
 use Rattle.std.proofs.Math.Logic.{⊎_elim}
+use Rattle.std.proofs.lemmas.List.{take-replicate}
 use Rattle.refusal.specs.Answer.{Answer, given, refused, then, ROOM}
 use Rattle.date.specs.Date.{SPAN_FIRST, SPAN_LAST}
 use Rattle.calendar.specs.declared.Convention.TheVariants.{Unadjusted}
 use Rattle.steps.specs.declared.Pace.{Pace}
 use Rattle.steps.specs.declared.Seed.{Seed}
 use Rattle.steps.specs.Candidates.{Turn, past, keep, candidate, turn_of}
-use Rattle.steps.specs.Generate.{Walk, Made, nothing, newest, onto, put, put_new, made_back, last_try, walk}
+use Rattle.steps.specs.Generate.{Lists, Made, nothing, onto, put, put_new, made_back, last_try, walk}
 use Rattle.outcomes.specs.Laws.Span.{le_or_lt, InSpan}
 use Rattle.plain.specs.Listed.{◌∈◌, Ascending}
 use Rattle.plain.specs.Listed as listed
 use Rattle.plain.specs.Most.{day_or}
-use Rattle.plain.specs.Laws.Chain.{ones, chain, chain_length, chain_first, in_chain, from_chain, chain_up, linked, put_fits, put_full, walk_fits, walk_full}
-use Rattle.plain.specs.Laws.Turns.{turn_keeps, turn_ends, new_same, new_put}
+use Rattle.plain.specs.Laws.Chain.{ones, chain, chain_length, in_chain, from_chain, chain_up, linked}
+use Rattle.plain.specs.Laws.Turns.{turn_keeps, turn_ends}
+use Rattle.plain.specs.Laws.Ended as ended
 
 -- d is the effective date, or after it and one of the candidates
 abbrev pub Due : ℕ → (ℕ → Answer ℕ) → ℕ → Type 0
@@ -49,19 +51,14 @@ pub record GeneratedBack (e t room : ℕ) (cand : ℕ → Answer ℕ) (j : ℕ) 
   pub accepted : length dates ≤ room → o ≡ given (record { dates = dates; flags = flag ∷ replicate (length dates - 2) 1; tries = suc j; seed = t })
   pub refuses : room < length dates → o ≡ refused ROOM
 
-take_ones : (k n : ℕ) → k ≤ n → take k (ones n) ≡ ones k
-take_ones zero n h = refl
-take_ones (suc k) zero h = absurd (not-suc-le-zero h)
-take_ones (suc k) (suc n) h = ap (λ (xs : List ℕ). 1 ∷ xs) (take_ones k n (omega arith))
-
 -- the flags of n dates: the marks of all but the one put first
 own_flags : (j n : ℕ) → 1 ≤ j → n ≡ j + 1 → take (n - 1) (ones (suc j)) ≡ 1 ∷ ones (n - 2)
-own_flags j n h e = let x : n - 1 ≡ suc (n - 2) = omega arith in take_ones (n - 1) (suc j) (omega arith) ∙ ap ones x
+own_flags j n h e = let x : n - 1 ≡ suc (n - 2) = omega arith in take-replicate (n - 1) (suc j) 1 (omega arith) ∙ ap ones x
 
 front_flags : (j n : ℕ) → n ≡ j + 2 → take (n - 1) (0 ∷ ones (suc j)) ≡ 0 ∷ ones (n - 2)
 front_flags j n e =
     let x : n - 1 ≡ suc (n - 2) = omega arith in
-    rw x (ap (λ (xs : List ℕ). 0 ∷ xs) (take_ones (n - 2) (suc j) (omega arith)))
+    rw x (ap (λ (xs : List ℕ). 0 ∷ xs) (take-replicate (n - 2) (suc j) 1 (omega arith)))
 
 -- candidate 0 is termination and each is before the one before it; 0 .. j are not before the effective date, the next is, and all of them are there
 pub record Falls (cand : ℕ → Answer ℕ) (e t j : ℕ) : Type 0 where
@@ -118,32 +115,32 @@ module _
     stops : turn (line j) (suc j) ≡ given past
     stops = turn_ends mask closed pace seed e (line j) (suc j) (line (suc j)) (f.there (suc j) (omega arith)) f.high
 
+    -- ---- the loop, and the effective date behind it
     abbrev built : Answer Made
     built = from_termination mask closed pace seed room e t
 
-    abbrev closes : Answer Walk → Answer Made
-    closes o = then o (λ w. then (put_new mask closed Unadjusted room e e 0 w.lists) (λ m. given (made_back w.tries t m)))
+    abbrev made : ℕ → Lists → Made
+    made tries l = made_back tries t l
 
-    none : room ≡ 0 → built ≡ refused ROOM
-    unfolding from_termination then
-    none h = rw (put_full room t 1 nothing (omega arith))
-
-    begins : 0 < room → built ≡ closes (walk turn room last_try 1 (linked line 0))
-    unfolding from_termination then
-    begins h =
-        let p : walk turn room last_try 1 (onto t 1 nothing) ≡ walk turn room last_try 1 (linked line 0) = ap (λ (x : ℕ). walk turn room last_try 1 (onto x 1 nothing)) (sym line_0) in
-        rw (put_fits room t 1 nothing h) (ap closes p)
-
-    fits : j < room → built ≡ then (put_new mask closed Unadjusted room e e 0 (linked line j)) (λ m. given (made_back (suc j) t m))
-    unfolding then
-    fits h = begins (omega arith) ∙ rw (walk_fits turn line room j keeps stops last_try few h)
+    is_through : built ≡ ended.through mask closed room t e turn made
+    unfolding from_termination
+    is_through = refl
 
     over : room ≤ j → built ≡ refused ROOM
-    unfolding then
-    over h =
-        ⊎_elim (λ (p : 0 ≡ room). none (sym p))
-        (λ (p : 0 < room). begins p ∙ rw (walk_full turn line room j keeps stops last_try (omega arith) p h))
-        (eq-or-lt_of_le zero-le)
+    over h = is_through ∙ ended.over mask closed room t e turn made line j line_0 keeps stops few (span j (omega arith)) own_span h
+
+    on_met : line j ≡ e → j < room → built ≡ given (made (suc j) (linked line j))
+    on_met q h = is_through ∙ ended.met mask closed room t e turn made line j line_0 keeps stops few (span j (omega arith)) own_span q h
+
+    module _ (q : e < line j) where
+      other : line j ≡ e → ⊥
+      other h = omega arith
+
+      on_unmet : suc j < room → built ≡ given (made (suc j) (onto e 0 (linked line j)))
+      on_unmet h = is_through ∙ ended.unmet mask closed room t e turn made line j line_0 keeps stops few (span j (omega arith)) own_span other h
+
+      on_full : room ≤ suc j → built ≡ refused ROOM
+      on_full h = is_through ∙ ended.full mask closed room t e turn made line j line_0 keeps stops few (span j (omega arith)) own_span other h
 
     -- what is after the effective date and a candidate is in the chain
     far : (k d : ℕ) → cand k ≡ given d → j < k → d < e
@@ -175,27 +172,6 @@ module _
         bound : (d : ℕ) → d ∈ chain line j → e ≤ d
         bound d h = omega (arith, f.low, no_less d h)
 
-    front_span : InSpan (newest (linked line j))
-    front_span = rw (chain_first line j) (span j (omega arith))
-
-    abbrev last : Answer Made
-    last = then (put_new mask closed Unadjusted room e e 0 (linked line j)) (λ m. given (made_back (suc j) t m))
-
-    last_same : line j ≡ e → last ≡ given (made_back (suc j) t (linked line j))
-    unfolding then
-    last_same q = rw (new_same mask closed room e (linked line j) front_span own_span (chain_first line j ∙ q))
-
-    other : e < line j → newest (linked line j) ≡ e → ⊥
-    other q h = omega (arith, chain_first line j)
-
-    last_put_lem : e < line j → suc j < room → last ≡ given (made_back (suc j) t (onto e 0 (linked line j)))
-    unfolding then
-    last_put_lem q h = rw (new_put mask closed room e (linked line j) front_span own_span (other q), put_fits room e 0 (linked line j) (omega (arith, chain_length line j)))
-
-    last_full : e < line j → room ≤ suc j → last ≡ refused ROOM
-    unfolding then
-    last_full q h = rw (new_put mask closed room e (linked line j) front_span own_span (other q), put_full room e 0 (linked line j) (omega (arith, chain_length line j)))
-
     made_same : line j ≡ e → chain line j ≡ due_list cand e j
     unfolding due_list
     made_same q = rw (le-ltb e (line j) (omega arith))
@@ -213,7 +189,7 @@ module _
       flag = 1;
       count = omega (arith, chain_length line j);
       first_flag = inl (refl, (j, f.there j (omega arith) ∙ ap given q));
-      accepted = λ h. fits (omega (arith, chain_length line j)) ∙ last_same q ∙ ap (λ (x : List ℕ). given (record { dates = chain line j; flags = x; tries = suc j; seed = t })) flags;
+      accepted = λ h. on_met q (omega (arith, chain_length line j)) ∙ ap (λ (x : List ℕ). given (record { dates = chain line j; flags = x; tries = suc j; seed = t })) flags;
       refuses = λ h. over (omega (arith, chain_length line j));
     }
       where
@@ -242,8 +218,8 @@ module _
       flag = 0;
       count = omega (arith, chain_length line j);
       first_flag = inr (refl, no_candidate);
-      accepted = λ h. fits (omega (arith, chain_length line j)) ∙ last_put_lem q (omega (arith, chain_length line j)) ∙ ap (λ (x : List ℕ). given (record { dates = e ∷ chain line j; flags = x; tries = suc j; seed = t })) flags;
-      refuses = λ h. full h;
+      accepted = λ h. on_unmet q (omega (arith, chain_length line j)) ∙ ap (λ (x : List ℕ). given (record { dates = e ∷ chain line j; flags = x; tries = suc j; seed = t })) flags;
+      refuses = λ h. on_full q (omega (arith, chain_length line j));
     }
       where
         no_candidate : (k : ℕ) → cand k ≡ given e → ⊥
@@ -251,9 +227,6 @@ module _
 
         flags : take (length (e ∷ chain line j) - 1) (0 ∷ ones (suc j)) ≡ 0 ∷ replicate (length (e ∷ chain line j) - 2) 1
         flags = front_flags j (length (e ∷ chain line j)) (omega (arith, chain_length line j))
-
-        full : room < length (e ∷ chain line j) → built ≡ refused ROOM
-        full h = ⊎_elim (λ (p : room ≤ j). over p) (λ (p : j < room). fits p ∙ last_full q (omega (arith, chain_length line j))) (le_or_lt room j)
 
     pub falling : GeneratedBack e t room cand j built
     falling = ⊎_elim (λ (q : e ≡ line j). met (sym q)) (λ (q : e < line j). unmet q) (eq-or-lt_of_le f.low)

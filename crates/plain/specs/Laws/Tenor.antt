@@ -1,6 +1,6 @@
 -- The candidates of a plain request are whole tenors before termination, in days, weeks, months or years.
 -- Assumes nothing.
-use Rattle.std.specs.Prelude.{ℕ, ◌*◌, ◌≤◌, ◌≡◌, refl, true, false, ℤ, pos, negsuc, nat_abs}
+use Rattle.std.specs.Prelude.{ℕ, ◌*◌, ◌≤◌, ◌≡◌, refl, Bool, true, false, ℤ, pos, negsuc, nat_abs}
 use Rattle.std.proofs.Common.{ap, sym, arith, one-mul, mul_left_comm, leb-true, ltb-true}
 use Rattle.std.proofs.lemmas.Bool.{false≢true}
 use Rattle.std.specs.Int.Signed.{lt_z}
@@ -19,21 +19,27 @@ pub positive_size : (z : ℤ) → lt_z (pos 0) z ≡ true → 1 ≤ nat_abs z
 positive_size (pos n) h = ltb-true 0 n h
 positive_size (negsuc n) h = absurd (false≢true h)
 
--- the k-th candidate lies k tenors before the date
-pub candidate_is : (n : ℕ) (u : TimeUnit) (t k : ℕ) → candidate true (pace_by n u) (seed_of false t) k ≡ shifted t true (k * n) u
+-- the k-th candidate lies k tenors before the date, or after it
+pub candidate_by_tenors : (back : Bool) (n : ℕ) (u : TimeUnit) (t k : ℕ) → candidate back (pace_by n u) (seed_of false t) k ≡ shifted t back (k * n) u
 unfolding candidate candidate_by pace_by seed_of shifted shift_days shift_months
-candidate_is n Days t k = refl
-candidate_is n Weeks t k = ap (λ (x : ℕ). within_span (step true t x)) (mul_left_comm k 7 n)
-candidate_is n Months t k = refl
-candidate_is n Years t k = ap (λ (x : ℕ). in_month (step true (month_index t) x) (fields_of t).day) (mul_left_comm k 12 n)
+candidate_by_tenors back n Days t k = refl
+candidate_by_tenors back n Weeks t k = ap (λ (x : ℕ). within_span (step back t x)) (mul_left_comm k 7 n)
+candidate_by_tenors back n Months t k = refl
+candidate_by_tenors back n Years t k = ap (λ (x : ℕ). in_month (step back (month_index t) x) (fields_of t).day) (mul_left_comm k 12 n)
+
+pub candidate_is : (n : ℕ) (u : TimeUnit) (t k : ℕ) → candidate true (pace_by n u) (seed_of false t) k ≡ shifted t true (k * n) u
+candidate_is = candidate_by_tenors true
 
 -- whole tenors are whole counts of days or months
-pub counts_are : (n : ℕ) (u : TimeUnit) (t k : ℕ) → shifted t true (k * n) u ≡ shifted t true (k * (count_of u * n)) (counted_in u)
+pub counts_by : (back : Bool) (n : ℕ) (u : TimeUnit) (t k : ℕ) → shifted t back (k * n) u ≡ shifted t back (k * (count_of u * n)) (counted_in u)
 unfolding shifted
-counts_are n Days t k = ap (λ (x : ℕ). shift_days t true (k * x)) (sym (one-mul n))
-counts_are n Weeks t k = ap (shift_days t true) (sym (mul_left_comm k 7 n))
-counts_are n Months t k = ap (λ (x : ℕ). shift_months t true (k * x)) (sym (one-mul n))
-counts_are n Years t k = ap (shift_months t true) (sym (mul_left_comm k 12 n))
+counts_by back n Days t k = ap (λ (x : ℕ). shift_days t back (k * x)) (sym (one-mul n))
+counts_by back n Weeks t k = ap (shift_days t back) (sym (mul_left_comm k 7 n))
+counts_by back n Months t k = ap (λ (x : ℕ). shift_months t back (k * x)) (sym (one-mul n))
+counts_by back n Years t k = ap (shift_months t back) (sym (mul_left_comm k 12 n))
+
+pub counts_are : (n : ℕ) (u : TimeUnit) (t k : ℕ) → shifted t true (k * n) u ≡ shifted t true (k * (count_of u * n)) (counted_in u)
+counts_are = counts_by true
 
 pub some_count : (u : TimeUnit) (n : ℕ) → 1 ≤ n → 1 ≤ count_of u * n
 some_count Days n h = omega arith
@@ -41,7 +47,7 @@ some_count Weeks n h = omega arith
 some_count Months n h = omega arith
 some_count Years n h = omega arith
 
-short : (n : ℕ) (u : TimeUnit) → tenor_ok n u ≡ true → n ≤ longest u
+pub short : (n : ℕ) (u : TimeUnit) → tenor_ok n u ≡ true → n ≤ longest u
 unfolding tenor_ok
 short n u h = leb-true n (longest u) h
 

@@ -1,6 +1,6 @@
 -- Under Unadjusted a date of the span is as it is: what a candidate does, and what becomes of the date put last.
 -- Assumes nothing.
-use Rattle.std.specs.Prelude.{ℕ, ◌≤◌, ◌<◌, ◌≡◌, true, List}
+use Rattle.std.specs.Prelude.{ℕ, ◌≤◌, ◌<◌, ◌≡◌, Bool, true, false, List}
 use borrow.Author.Tests.{lt-ltb, le-ltb, le-leb, eq-eqb, ne_eqb}
 use Rattle.refusal.specs.Answer.{given, need, then}
 use Rattle.date.specs.Date.{SPAN_FIRST, SPAN_LAST}
@@ -18,14 +18,24 @@ module _ (mask : ℕ) (closed : List ℕ) where
   unfolding any.adjusted in_span any.by_convention need
   stays day s = rw (le-leb SPAN_FIRST day s.low, le-leb day SPAN_LAST s.high)
 
+  -- a candidate is kept, or ends the loop, in either direction
+  module _ (back : Bool) (pace : Pace) (seed : Seed) (exit front k day : ℕ) (c : candidate back pace seed k ≡ given day) where
+    pub candidate_keeps : is_past back exit day ≡ false → InSpan front → InSpan day → (front ≡ day → ⊥) → turn_of mask closed Unadjusted back pace seed exit front k ≡ given (keep day)
+    unfolding turn_of unless_past unless_same then
+    candidate_keeps h s s' n = rw (c, h, stays front s, stays day s', ne_eqb front day n)
+
+    pub candidate_ends : is_past back exit day ≡ true → turn_of mask closed Unadjusted back pace seed exit front k ≡ given past
+    unfolding turn_of unless_past then
+    candidate_ends h = rw (c, h)
+
   module _ (pace : Pace) (seed : Seed) (exit front k day : ℕ) (c : candidate true pace seed k ≡ given day) where
     pub turn_keeps : exit ≤ day → InSpan front → InSpan day → (front ≡ day → ⊥) → turn_of mask closed Unadjusted true pace seed exit front k ≡ given (keep day)
-    unfolding turn_of is_past unless_past unless_same then
-    turn_keeps h s s' n = rw (c, le-ltb day exit h, stays front s, stays day s', ne_eqb front day n)
+    unfolding is_past
+    turn_keeps h = candidate_keeps true pace seed exit front k day c (le-ltb day exit h)
 
     pub turn_ends : day < exit → turn_of mask closed Unadjusted true pace seed exit front k ≡ given past
-    unfolding turn_of is_past unless_past then
-    turn_ends h = rw (c, lt-ltb day exit h)
+    unfolding is_past
+    turn_ends h = candidate_ends true pace seed exit front k day c (lt-ltb day exit h)
 
   module _ (room day : ℕ) (l : Lists) (s : InSpan (newest l)) (s' : InSpan day) where
     pub new_same : newest l ≡ day → put_new mask closed Unadjusted room day day 0 l ≡ given l

@@ -107,14 +107,14 @@ length_less : (xs ys zs : List ℕ) → length (xs ++ ys) ≤ length (xs ++ (ys 
 length_less xs ys zs = omega (arith, length-append xs ys, length-append xs (ys ++ zs), length-append ys zs)
 
 module _ (room last : ℕ) where
-  all_events_lem : (rs : List Run) (m : ℕ) (xs : List ℕ) → SomeDay rs → Ascending (xs ++ days_in rs) → ((y : ℕ) → y ∈ days_in rs → (657072 ≤ y) × (y ≤ 876216)) → length (xs ++ days_in rs) ≤ min room MOST → from_here room last (numbered m (all_events rs ++ behind)) OUTER blank xs ≡ days (xs ++ days_in rs)
+  events_back : (rs : List Run) (m : ℕ) (xs : List ℕ) → SomeDay rs → Ascending (xs ++ days_in rs) → ((y : ℕ) → y ∈ days_in rs → (657072 ≤ y) × (y ≤ 876216)) → length (xs ++ days_in rs) ≤ min room MOST → from_here room last (numbered m (all_events rs ++ behind)) OUTER blank xs ≡ days (xs ++ days_in rs)
   unfolding all_events days_in behind numbered
-  all_events_lem [] m xs s a b l = closes_calendar room last m blank xs ∙ ap days (sym (append-nil xs))
-  all_events_lem (r ∷ rs) m xs s a b l =
+  events_back [] m xs s a b l = closes_calendar room last m blank xs ∙ ap days (sym (append-nil xs))
+  events_back (r ∷ rs) m xs s a b l =
       ap (λ (k : List Bytes). from_here room last (numbered m k) OUTER blank xs) (append_assoc (event_lines r) (all_events rs) behind)
       ∙ one_event room last m (all_events rs ++ behind) xs r low s.0 high there
       ∙ ap (from_here room last (numbered (suc (suc (suc (suc (suc (suc m)))))) (all_events rs ++ behind)) OUTER blank) added
-      ∙ all_events_lem rs (suc (suc (suc (suc (suc (suc m)))))) (xs ++ upward count r.first) s.1 (rw together a) (λ y i. b y (in_second (upward count r.first) (days_in rs) y i)) (rw together l)
+      ∙ events_back rs (suc (suc (suc (suc (suc (suc m)))))) (xs ++ upward count r.first) s.1 (rw together a) (λ y i. b y (in_second (upward count r.first) (days_in rs) y i)) (rw together l)
       ∙ ap days together
     where
       count : ℕ
@@ -222,7 +222,7 @@ back list room ok size place = at_start (file_of list) room sized some_line ∙ 
     walked =
         ap (λ (ls : List Line). from_here room last ls [] blank []) (file_lines list)
         ∙ first_lines room last (all_events rs ++ behind)
-        ∙ all_events_lem room last rs 4 [] (some_days list) (rw (runs_days list) (closed_ascends list ok)) (λ y i. closed_within list ok y (rw (runs_days list) at i)) (rw (runs_days list) (omega (arith, closed_few list ok)))
+        ∙ events_back room last rs 4 [] (some_days list) (rw (runs_days list) (closed_ascends list ok)) (λ y i. closed_within list ok y (rw (runs_days list) at i)) (rw (runs_days list) (omega (arith, closed_few list ok)))
         ∙ ap days (runs_days list)
 
 -- so what the export gives, the import takes back

@@ -1,24 +1,24 @@
 -- The promise settles the answer and the file; a refusal leaves the file as it was, and bytes leave the later places.
 -- Assumes nothing.
-use Rattle.std.specs.Prelude.{ℕ, ◌≤◌, ◌≡◌, List, ◌++◌, length, take, drop}
+use Rattle.std.specs.Prelude.{ℕ, ◌≤◌, ◌≡◌, Result, Ok, List, ◌++◌, length, take, drop}
 use Rattle.std.proofs.Common.{sym, ◌∙◌}
 use Rattle.std.proofs.Math.Path.{ap}
 use Rattle.std.proofs.Math.Seq.{take-append_seam, drop-append_seam}
-use Rattle.refusal.specs.Answer.{Answer, given, refused}
+use Rattle.refusal.specs.declared.Refusal.{Refusal}
+use Rattle.refusal.specs.Laws.Answers.{same_answered}
+use Rattle.refusal.specs.Answer.{Answer, given, refused, answered}
 use Rattle.holidays.specs.Words.{Bytes}
 use Rattle.holidays.specs.Import.{days, import_of}
-use Rattle.publishing.specs.declared.Exported.{Exported}
-use Rattle.publishing.specs.declared.Exported.TheVariants as exported-is
 use Rattle.publishing.specs.File.{export_of}
 use Rattle.publishing.specs.Promise.{answer_of, bytes_of, Exports}
 use Rattle.publishing.specs.Laws.Back.{export_import}
 
 -- no two outcomes meet the promise
-pub settled : (list file : List ℕ) (r s : Exported) (a b : List ℕ) → Exports list file r a → Exports list file s b → (r ≡ s) × (a ≡ b)
-settled list file r s a b p q = (p.answer ∙ sym q.answer, p.bytes ∙ sym q.bytes)
+pub settled : (list file : List ℕ) (r s : Result ℕ Refusal) (a b : List ℕ) → Exports list file r a → Exports list file s b → (r ≡ s) × (a ≡ b)
+settled list file r s a b p q = (same_answered r s (p.answer ∙ sym q.answer), p.bytes ∙ sym q.bytes)
 
-module _ (list file : List ℕ) (r : Exported) (file' : List ℕ) (p : Exports list file r file') where
-  pub refused_leaves : (number : ℕ) → export_of list (length file) ≡ refused number → (r ≡ exported-is.Refused number) × (file' ≡ file)
+module _ (list file : List ℕ) (r : Result ℕ Refusal) (file' : List ℕ) (p : Exports list file r file') where
+  pub refused_leaves : (number : ℕ) → export_of list (length file) ≡ refused number → (answered r ≡ refused number) × (file' ≡ file)
   unfolding answer_of bytes_of
   refused_leaves number e = (p.answer ∙ ap answer_of e, p.bytes ∙ ap (λ (a : Answer Bytes). bytes_of a file) e)
 
@@ -27,9 +27,9 @@ module _ (list file : List ℕ) (r : Exported) (file' : List ℕ) (p : Exports l
     unfolding bytes_of
     so = p.bytes ∙ ap (λ (a : Answer Bytes). bytes_of a file) e
 
-    pub bytes_counted : r ≡ exported-is.Bytes (length s)
+    pub bytes_counted : r ≡ Ok (length s)
     unfolding answer_of
-    bytes_counted = p.answer ∙ ap answer_of e
+    bytes_counted = same_answered r (Ok (length s)) (p.answer ∙ ap answer_of e)
 
     pub later_kept : drop (length s) file' ≡ drop (length s) file
     later_kept = ap (drop (length s)) so ∙ drop-append_seam s (drop (length s) file)

@@ -36,10 +36,10 @@ one_day : (d : ℕ) → upward (d + 1 - d) d ≡ d ∷ []
 unfolding upward
 one_day d = let e : d + 1 - d ≡ 1 = omega arith in ap (λ (k : ℕ). upward k d) e
 
-days_from_lem : (first past : ℕ) (ds : List ℕ) → first ≤ past → days_in (runs_from first past ds) ≡ upward (past - first) first ++ ds
+days_behind : (first past : ℕ) (ds : List ℕ) → first ≤ past → days_in (runs_from first past ds) ≡ upward (past - first) first ++ ds
 unfolding runs_from days_in joined
-days_from_lem first past [] h = refl
-days_from_lem first past (d ∷ ds) h = go (eqb d past) refl (λ k. days_from_lem first (d + 1) ds k) (days_from_lem d (d + 1) ds (omega arith))
+days_behind first past [] h = refl
+days_behind first past (d ∷ ds) h = go (eqb d past) refl (λ k. days_behind first (d + 1) ds k) (days_behind d (d + 1) ds (omega arith))
   where
     go : (e : Bool) → eqb d past ≡ e → (first ≤ d + 1 → days_in (runs_from first (d + 1) ds) ≡ upward (d + 1 - first) first ++ ds) → days_in (runs_from d (d + 1) ds) ≡ upward (d + 1 - d) d ++ ds → days_in (joined e first past d (λ from. runs_from from (d + 1) ds)) ≡ upward (past - first) first ++ (d ∷ ds)
     go true q on new =
@@ -51,7 +51,7 @@ days_from_lem first past (d ∷ ds) h = go (eqb d past) refl (λ k. days_from_le
 pub runs_days : (list : List ℕ) → days_in (runs_of list) ≡ list
 unfolding runs_of days_in
 runs_days [] = refl
-runs_days (d ∷ ds) = days_from_lem d (d + 1) ds (omega arith) ∙ ap (λ (s : List ℕ). s ++ ds) (one_day d)
+runs_days (d ∷ ds) = days_behind d (d + 1) ds (omega arith) ∙ ap (λ (s : List ℕ). s ++ ds) (one_day d)
 
 -- ---- each run has a day
 abbrev pub SomeDay : List Run → Type 0

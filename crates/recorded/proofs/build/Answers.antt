@@ -1,17 +1,18 @@
-use Rattle.std.proofs.Common.{refl, rules}
-use Rattle.crossing.specs.Laws.Calls.{request_named, request_unnamed}
+use Rattle.std.proofs.Common.{ap, refl, rules, ◌∙◌}
+use Rattle.refusal.specs.Laws.Answers.{was_given, was_refused}
+use Rattle.steps.specs.Build.{refused_built}
 use Rattle.recorded.proofs.Recording.{reported_built, reported_refused, reported_short}
 use Rattle.recorded.proofs.build.Goals as goal
 
 pub returns-then-answer-lt7 : goal.returns-then-answer-lt7
-returns-then-answer-lt7 c = reported_short _ _ _ _ _ _ c.minus.type_inv c.if-answer-lt7.true c.minus.ensures
+returns-then-answer-lt7 c = reported_short _ _ _ _ _ _ c.refused.type_inv c.if-answer-lt7.true c.refused.ensures
 
-pub returns-in-Is : goal.returns-in-Is
-returns-in-Is c =
+pub returns-in-Ok : goal.returns-in-Ok
+returns-in-Ok c =
     reported_built _ _ _ _ _ _ (search rules) c.if-answer-lt7.false _ _ c.report.ensures.0 c.report.ensures.1
-    _ _ _ _ (request_named refl _ c.in-Is.is) c.build-built.ensures
+    _ _ _ _ (was_given _ _ _ refl c.in-Ok.is) c.build-built.ensures
 
-pub returns-in-Refused : goal.returns-in-Refused
-returns-in-Refused c =
-    reported_refused _ _ _ _ _ _ (search rules) c.if-answer-lt7.false _ _ c.report-in-Refused.ensures.0 c.report-in-Refused.ensures.1
-    _ (request_unnamed refl _ c.in-Refused.is) c.refused.ensures
+pub returns-in-Err : goal.returns-in-Err
+returns-in-Err c =
+    reported_refused _ _ _ _ _ _ (search rules) c.if-answer-lt7.false _ _ c.report-in-Err.ensures.0 c.report-in-Err.ensures.1
+    _ (was_refused _ _ _ refl c.in-Err.is) (c.refused-in-Err.ensures ∙ ap refused_built c.number.ensures)

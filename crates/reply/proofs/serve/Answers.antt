@@ -3,13 +3,13 @@ use Rattle.reply.proofs.Ways.{served, served_count, turned_away}
 use Rattle.reply.proofs.serve.Goals as goal
 
 pub slice_bounds-reply-end : goal.slice_bounds-reply-end
-slice_bounds-reply-end c = served_count c.args.input.now c.decode.ensures _ _ c.in-Asked.is
+slice_bounds-reply-end c = served_count c.args.input.now c.decode.ensures _ c.in-Ok.is
 
-pub slice_bounds-reply-end-in-Asked : goal.slice_bounds-reply-end-in-Asked
-slice_bounds-reply-end-in-Asked c = sym (length-take-le _ _ (served_count c.args.input.now c.decode.ensures _ _ c.in-Asked.is))
+pub slice_bounds-reply-end-in-Ok : goal.slice_bounds-reply-end-in-Ok
+slice_bounds-reply-end-in-Ok c = sym (length-take-le _ _ (served_count c.args.input.now c.decode.ensures _ c.in-Ok.is))
 
-pub returns-in-Refused : goal.returns-in-Refused
-returns-in-Refused c = turned_away c.args.input.now c.decode.ensures _ c.requires.closed_len.0 c.in-Refused.is c.refusal.ensures
+pub returns-in-Err : goal.returns-in-Err
+returns-in-Err c = turned_away c.args.input.now c.decode.ensures _ c.requires.closed_len.0 c.in-Err.is (rw c.number.ensures at c.refusal.ensures)
 
-pub returns-in-Asked : goal.returns-in-Asked
-returns-in-Asked c = served c.args.input.now c.decode.ensures _ _ c.requires.closed_len.0 c.in-Asked.is c.reply.ensures
+pub returns-in-Ok : goal.returns-in-Ok
+returns-in-Ok c = served c.args.input.now c.decode.ensures _ c.requires.closed_len.0 c.in-Ok.is c.reply.ensures

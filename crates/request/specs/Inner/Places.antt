@@ -1,11 +1,11 @@
 -- What the code's places in the bytes stand for. A place is where a body starts, its length in the two bytes before it; 0 is none.
 -- Assumes nothing.
-use Rattle.std.specs.Prelude.{ℕ, suc, ◌+◌, ◌*◌, ◌-◌, ◌<◌, ◌≤◌, ◌≡◌, Bool, true, false, List, [], ◌∷◌, eqb, ℤ, length, take, drop, get_or}
+use Rattle.std.specs.Prelude.{ℕ, suc, ◌+◌, ◌-◌, ◌<◌, ◌≤◌, ◌≡◌, Bool, true, false, List, [], ◌∷◌, eqb, ℤ, length, take, drop, get_or}
 use Rattle.refusal.specs.Answer.{Answer, given, refused, then, REQUEST}
 use Rattle.request.specs.declared.fields.Step.{Step}
 use Rattle.request.specs.declared.fields.Step.TheVariants.{Broken, End, Next}
 use Rattle.request.specs.Encode.{bits16}
-use Rattle.request.specs.Format.{pick, two, body_ok, Field, last_tag, cut_of, on_cut, fields_from, body_or, dates_of}
+use Rattle.request.specs.Format.{pick, two, body_ok, Field, last_tag, cut_of, on_cut, fields_from, body_or}
 
 -- a byte as a wider number
 pub record Wide (x r : ℕ) : Type 0 where
@@ -26,10 +26,6 @@ body_at bytes left_out place = pick (eqb place 0) left_out (take (two_at bytes (
 
 abbrev pub placed : List ℕ → List ℕ → List ℕ → ℕ → List ℕ
 placed bytes places left_out tag = body_at bytes left_out (get_or places tag 0)
-
--- so many dates from a place on
-abbrev pub dates_at : List ℕ → ℕ → ℕ → List ℕ
-dates_at bytes from count = dates_of count (take (count * 4) (drop from bytes))
 
 -- a body of so many bytes lies at a place
 pub record Sized (bytes : List ℕ) (place n : ℕ) : Type 0 where

@@ -1,15 +1,16 @@
 -- What a request that was read holds, and where its closed dates stand.
 -- Assumes nothing.
-use Rattle.std.specs.Prelude.{ℕ, ◌-◌, ◌≤◌, ◌≡◌, refl, List, length, take, drop}
-use Rattle.std.proofs.Common.{ap, subst, ◌∙◌, arith, take_at, leb-true}
-use Rattle.refusal.specs.Answer.{Answer, given, refused}
-use Rattle.refusal.specs.Laws.Answers.{need_given, then_stepped, one_given}
+use Rattle.std.specs.Prelude.{ℕ, ◌-◌, ◌≤◌, ◌≡◌, refl, List, length, take, drop, Result, Ok, Err}
+use Rattle.std.proofs.Common.{ap, sym, subst, ◌∙◌, arith, take_at, leb-true}
+use Rattle.refusal.specs.declared.Refusal.{Refusal}
+use Rattle.refusal.specs.Refusals.{number_of}
+use Rattle.refusal.specs.Answer.{Answer, given, refused, answered}
+use Rattle.refusal.specs.Laws.Answers.{need_given, then_stepped, one_given, never_both}
 use Rattle.steps.specs.declared.Request.{Request}
 use Rattle.steps.specs.Build.{over}
 use Rattle.request.specs.declared.Decoded.{Decoded}
-use Rattle.request.specs.declared.Decoded.TheVariants as decoded-is
 use Rattle.request.specs.Format.{Asked, asked_from, asked_in, decoded}
-use Rattle.request.specs.Decode.{answered, closed_dates_after}
+use Rattle.request.specs.Decode.{counted, closed_dates_after}
 
 -- the closed dates of a request that was read had room
 pub read_fits : (s : List ℕ) (room : ℕ) (a : Asked) → decoded s room ≡ given a → length a.closed ≤ room
@@ -28,21 +29,25 @@ pub record Held (o : Answer Asked) (q : Request) (n : ℕ) : Type 0 where
   pub request : asked.request ≡ q
   pub count : length asked.closed ≡ n
 
-pub held : (o : Answer Asked) (r : Decoded) (q : Request) (n : ℕ) → r ≡ answered o → r ≡ decoded-is.Asked q n → Held o q n
-unfolding answered
-held (given a) r q n p e = record { asked = a; from = refl; request = cc; count = cc }
-held (refused k) r q n p e = let z : ◌≡◌ {A = ℕ} 0 1 = cc in let bad : ⊥ = omega arith in absurd bad
+pub held : (o : Answer Asked) (r : Result Decoded Refusal) (d : Decoded) → answered r ≡ counted o → r ≡ Ok d → Held o d.request d.closed
+unfolding counted
+held (given a) r d p e =
+    let same : record { request = a.request; closed = length a.closed } ≡ d = one_given (answered r) _ d p (ap answered e) in
+    record { asked = a; from = refl; request = ap (λ (x : Decoded). x.request) same; count = ap (λ (x : Decoded). x.closed) same }
+held (refused n) r d p e = absurd (never_both (answered r) d n (ap answered e) p)
 
-pub unread : (o : Answer Asked) (r : Decoded) (n : ℕ) → r ≡ answered o → r ≡ decoded-is.Refused n → o ≡ refused n
-unfolding answered
-unread (given a) r n p e = let z : ◌≡◌ {A = ℕ} 0 1 = cc in let bad : ⊥ = omega arith in absurd bad
-unread (refused k) r n p e = cc
+pub unread : (o : Answer Asked) (r : Result Decoded Refusal) (k : Refusal) → answered r ≡ counted o → r ≡ Err k → o ≡ refused (number_of k)
+unfolding counted
+unread (given a) r k p e = absurd (never_both (answered r) _ (number_of k) p (ap answered e))
+unread (refused n) r k p e =
+    let same : ◌≡◌ {A = Answer Decoded} (refused n) (refused (number_of k)) = sym p ∙ ap answered e in
+    ap refused (let q : n ≡ number_of k = cc in q)
 
 -- its closed dates stand at the start of the list
-pub closed_part_lem : (o : Answer Asked) (old list : List ℕ) (a : Asked) (n : ℕ) → o ≡ given a → list ≡ closed_dates_after o old → length a.closed ≡ n → take (n - 0) (drop 0 list) ≡ a.closed
+pub closed_part : (o : Answer Asked) (old list : List ℕ) (a : Asked) (n : ℕ) → o ≡ given a → list ≡ closed_dates_after o old → length a.closed ≡ n → take (n - 0) (drop 0 list) ≡ a.closed
 unfolding closed_dates_after over
-closed_part_lem (given b) old list a n e l c =
+closed_part (given b) old list a n e l c =
     let k : b ≡ a = one_given _ b a refl e in
     let m : n - 0 ≡ n = omega arith in
     rw (m, l) (take_at b.closed _ n (ap (λ (x : Asked). length x.closed) k ∙ c) ∙ ap (λ (x : Asked). x.closed) k)
-closed_part_lem (refused m) old list a n e l c = let z : ◌≡◌ {A = ℕ} 0 1 = cc in let bad : ⊥ = omega arith in absurd bad
+closed_part (refused m) old list a n e l c = let z : ◌≡◌ {A = ℕ} 0 1 = cc in let bad : ⊥ = omega arith in absurd bad

@@ -171,9 +171,9 @@ module _ (q : Request) (closed : List ℕ) (can : sayable q (length closed) ≡ 
   fourth : length (dates_in closed) / 4 ≡ length closed
   fourth = omega (arith, many)
 
-  dates_ok_lem : are_dates (dates_in closed) ≡ true
+  dates_are_ok : are_dates (dates_in closed) ≡ true
   unfolding are_dates
-  dates_ok_lem =
+  dates_are_ok =
       let l : leb (length (dates_in closed)) 16384 ≡ true = le-leb (length (dates_in closed)) 16384 (omega (arith, many, few)) in
       let f : length (dates_in closed) % 4 ≡ 0 = omega (arith, many) in
       rw (l, f) refl
@@ -201,7 +201,7 @@ module _ (q : Request) (closed : List ℕ) (can : sayable q (length closed) ≡ 
                     (
                       record { up = omega arith; low = omega arith; ok = mask_ok },
                       (
-                        record { up = omega arith; low = omega arith; ok = dates_ok_lem },
+                        record { up = omega arith; low = omega arith; ok = dates_are_ok },
                         omega arith,
                       ),
                     ),
@@ -226,15 +226,15 @@ module _ (q : Request) (closed : List ℕ) (can : sayable q (length closed) ≡ 
   unfolding request_from body_or onto fields_in pick date_of
   request_back =
       λ i. record {
-        effective = record { day = four_back q.effective.day i };
-        termination = record { day = four_back q.termination.day i };
+        effective = four_back q.effective i;
+        termination = four_back q.termination i;
         tenor = tenor_back i;
         rule = rule_back q.rule i;
         convention = convention_back q.convention i;
         terminal = convention_back q.terminal i;
         monthend = bit_back q.monthend i;
-        first = record { day = four_back q.first.day i };
-        penultimate = record { day = four_back q.penultimate.day i };
+        first = four_back q.first i;
+        penultimate = four_back q.penultimate i;
         mask = q.mask;
       }
 

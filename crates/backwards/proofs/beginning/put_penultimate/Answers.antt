@@ -1,4 +1,5 @@
-use Rattle.backwards.proofs.Backing.{penultimate, penultimate_on}
+use Rattle.backwards.proofs.Backing.{flagged, penultimate, penultimate_on}
+use Rattle.working.specs.Dates.{dated_on, dated_stops}
 use Rattle.backwards.proofs.beginning.put_penultimate.Goals as goal
 
 pub returns-then-anchor-eq0 : goal.returns-then-anchor-eq0
@@ -7,8 +8,8 @@ returns-then-anchor-eq0 c = record { run = λ p. search (penultimate, c.if-ancho
 pub returns-then-room-n : goal.returns-then-room-n
 returns-then-room-n c = record { run = λ p. search (penultimate, c.if-anchor-eq0.false, c.if-room-n.true) }
 
-pub returns-in-Refused : goal.returns-in-Refused
-returns-in-Refused c = record { run = λ p. penultimate_on _ _ p _ c.if-anchor-eq0.false c.if-room-n.false (search (penultimate, c.candidate.ensures, c.in-Refused.is)) }
+pub returns-in_err-next : goal.returns-in_err-next
+returns-in_err-next c = record { run = λ p. penultimate_on _ _ p _ c.if-anchor-eq0.false c.if-room-n.false (dated_stops _ _ _ _ c.candidate.ensures c.in_err-next.was _ c.from_residual.ensures) }
 
 pub returns : goal.returns
-returns c = record { run = λ p. penultimate_on _ _ p _ c.if-anchor-eq0.false c.if-room-n.false (search (penultimate, c.candidate.ensures, c.in-Day.is, c.same_flag-mark.ensures, c.put.ensures, p.part)) }
+returns c = record { run = λ p. penultimate_on _ _ p _ c.if-anchor-eq0.false c.if-room-n.false (dated_on _ _ _ _ _ c.candidate.ensures c.in_ok-next.was c.next.view_is (flagged _ _ _ _ _ c.same_flag-mark.ensures (c.put.ensures.run p.part))) }

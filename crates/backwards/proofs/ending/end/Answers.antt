@@ -1,12 +1,11 @@
 use Rattle.steps.specs.Generate.{ended}
-use Rattle.working.specs.Adding.{adds}
-use Rattle.working.specs.Step.{does}
+use Rattle.working.specs.Step.{step_on, step_stops}
 use Rattle.backwards.proofs.ending.end.Goals as goal
 
-pub returns-in-Refused : goal.returns-in-Refused
+pub returns-in_err-anchored : goal.returns-in_err-anchored
 unfolding ended
-returns-in-Refused c = record { run = λ a. search (adds, c.put_anchor.ensures, c.in-Refused.is) }
+returns-in_err-anchored c = rw (← c.q.view_is) (record { run = λ a. step_stops _ _ c.put_anchor.ensures _ c.in_err-anchored.was a _ c.from_residual.ensures })
 
 pub returns : goal.returns
 unfolding ended
-returns c = record { run = λ a. search (adds, does, c.put_anchor.ensures, c.in-Ready.is, c.put_new.ensures) }
+returns c = rw (← c.q.view_is) (record { run = λ a. step_on _ _ c.put_anchor.ensures _ c.in_ok-anchored.was a (λ s. c.put_new.ensures.run s) })

@@ -1,18 +1,26 @@
-use Rattle.std.proofs.Common.{arith}
-use Rattle.calendar.proofs.Ways.{steps_end, steps_next, steps_refused, steps_start}
-use Rattle.date.specs.Date.{dated}
+use Rattle.std.specs.Prelude.{Ok}
+use Rattle.std.proofs.Common.{◌≡◌, ◌+◌, ◌-◌, ap, arith, sym, subst, ℕ, ◌∙◌}
+use Rattle.refusal.specs.Laws.Answers.{handed_on}
+use Rattle.calendar.proofs.Ways.{Steps, steps_end, steps_next, steps_refused, steps_start}
 use Rattle.calendar.proofs.advances.step_open.Goals as goal
 
-pub loop-left-init : goal.loop-left-init
-loop-left-init c = steps_start
+pub loop-init : goal.loop-init
+loop-init c =
+    let a = c.args in
+    let e : a.size ≡ a.size - 0 = omega arith in
+    subst (λ (left : ℕ). Steps a.mask a.closed.now a.back a.size a.day left a.day) e steps_start
 
-pub loop-left-preserved : goal.loop-left-preserved
-loop-left-preserved c = steps_next c.loop-left.invariant (omega arith) {next = c.neighbour-next.result} c.neighbour-next.ensures {x = c.in-Day.open} cc
+pub loop-preserved : goal.loop-preserved
+loop-preserved c =
+    let a = c.args in
+    let next = steps_next c.loop.invariant (omega arith) {next = c.neighbour.result} c.neighbour.ensures {x = c.at.inside.day} (c.in_ok-at.was ∙ ap Ok (sym c.at.view_is)) in
+    let e : a.size - c.loop.counter - 1 ≡ a.size - (c.loop.counter + 1) = omega arith in
+    subst (λ (left : ℕ). Steps a.mask a.closed.now a.back a.size a.day left c.at.inside.day) e next
 
-pub returns-in-Refused : goal.returns-in-Refused
-unfolding dated
-returns-in-Refused c = λ ok. steps_refused c.loop-left.invariant (omega arith) {next = c.neighbour-next.result} c.neighbour-next.ensures c.in-Refused.n (cc) ok
+pub returns-in_err-at : goal.returns-in_err-at
+returns-in_err-at c =
+    λ ok. handed_on _ _ c.from_residual.ensures
+    ∙ steps_refused c.loop.invariant (omega arith) {next = c.neighbour.result} c.neighbour.ensures _ c.in_err-at.was ok
 
 pub returns : goal.returns
-unfolding dated
-returns c = λ ok. steps_end c.loop-left.invariant (omega arith) ok
+returns c = λ ok. steps_end c.loop.invariant (omega arith) ok

@@ -1,9 +1,9 @@
-use Rattle.std.proofs.Common.{arith}
-use Rattle.calendar.proofs.Places.{bracket_down, bracket_up}
+use Rattle.std.proofs.Common.{ℕ, ltb, arith, rules}
+use Rattle.std.proofs.lemmas.List.Sorted.{IsPartitionPoint-from_clause}
+use Rattle.calendar.proofs.Places.{bisected, parted, part_size}
 use Rattle.calendar.proofs.closed_dates.bisect.Goals as goal
 
-pub loop-lo-preserved-then-closed-mid : goal.loop-lo-preserved-then-closed-mid
-loop-lo-preserved-then-closed-mid c = bracket_up c.loop-lo.invariant (omega arith) (omega arith) c.if-closed-mid.true
-
-pub loop-lo-preserved : goal.loop-lo-preserved
-loop-lo-preserved c = bracket_down c.loop-lo.invariant (omega arith) (omega arith) c.if-closed-mid.false
+pub returns : goal.returns
+returns c =
+    let b = c.requires in
+    bisected b _ (omega (arith, part_size b, c.partition_point.ensures.bound)) (λ ok. IsPartitionPoint-from_clause (λ (d : ℕ). ltb d c.args.x) _ _ c.partition_point.ensures.partitioned (parted b ok) (λ a r q k. search rules))

@@ -1,12 +1,10 @@
 use Rattle.calendar.proofs.Days.{ahead_rules}
-use Rattle.date.specs.Date.{dated}
 use Rattle.calendar.proofs.scan.ahead.Goals as goal
 
 pub days-init : goal.days-init
 days-init c = search ahead_rules
 
 pub returns-then-left-eq0 : goal.returns-then-left-eq0
-unfolding dated
 returns-then-left-eq0 c = search ahead_rules
 
 pub days-preserved-then-shut : goal.days-preserved-then-shut
@@ -18,10 +16,5 @@ days-preserved c = search ahead_rules
 pub scan-preserved : goal.scan-preserved
 scan-preserved c = search ahead_rules
 
-pub returns-after-scan : goal.returns-after-scan
-unfolding dated
-returns-after-scan c = search ahead_rules
-
-pub returns-then-here-x : goal.returns-then-here-x
-unfolding dated
-returns-then-here-x c = search ahead_rules
+pub returns : goal.returns
+returns c = search ahead_rules

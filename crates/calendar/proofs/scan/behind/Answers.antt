@@ -1,12 +1,11 @@
 use Rattle.calendar.proofs.Days.{behind_rules}
-use Rattle.date.specs.Date.{dated}
 use Rattle.calendar.proofs.scan.behind.Goals as goal
+use Rattle.calendar.proofs.scan.behind.Goals.{else-scan-test, then-scan-test+then-x-here}
 
 pub days-init : goal.days-init
 days-init c = search behind_rules
 
 pub returns-then-left-eq0 : goal.returns-then-left-eq0
-unfolding dated
 returns-then-left-eq0 c = search behind_rules
 
 pub days-preserved-then-shut : goal.days-preserved-then-shut
@@ -18,10 +17,7 @@ days-preserved c = search behind_rules
 pub scan-preserved : goal.scan-preserved
 scan-preserved c = search behind_rules
 
-pub returns-after-scan : goal.returns-after-scan
-unfolding dated
-returns-after-scan c = search behind_rules
-
-pub returns-then-x-here : goal.returns-then-x-here
-unfolding dated
-returns-then-x-here c = search behind_rules
+pub returns : goal.returns
+returns c =
+    elim c.scan-test.branch
+    [ else-scan-test w ↦ rw w.open-is (search behind_rules) | then-scan-test+then-x-here w ↦ rw w.open-is (search behind_rules) ]

@@ -2,4 +2,4 @@ use Rattle.capi.proofs.Indexing.{indexed_as}
 use Rattle.capi.proofs.indexes.heronspan_index_add.Goals as goal
 
 pub returns : goal.returns
-returns c = indexed_as c.of_changed.result c.of_changed.type_inv c.of_changed.ensures c.add.ensures
+returns c = indexed_as c.one_number.result c.one_number.type_inv c.one_number.ensures c.add.ensures

@@ -1,14 +1,19 @@
+use Rattle.std.specs.Prelude.{Ok}
+use Rattle.std.proofs.Common.{ap, sym, ◌∙◌}
+use Rattle.refusal.specs.Answer.{given}
+use Rattle.refusal.specs.Laws.Answers.{handed_on}
 use Rattle.calendar.specs.Laws.Conventions.{modified_kept, modified_left, modified_refused}
-use Rattle.date.specs.Date.{dated}
 use Rattle.desk.proofs.adjusting.look_in_month.Goals as goal
 
+pub returns-in_err-found : goal.returns-in_err-found
+returns-in_err-found c = handed_on _ _ c.from_residual.ensures ∙ modified_refused _ _ _ _ c.look.ensures _ c.in_err-found.was
+
 pub returns-then-same_month : goal.returns-then-same_month
-unfolding dated
-returns-then-same_month c = let i = c.look-first in modified_kept _ _ _ i.result i.ensures c.in-Day.open _ (cc) c.same_month.ensures c.if-same_month.true
+returns-then-same_month c =
+    let found = c.in_ok-found.was ∙ ap Ok (sym c.found.view_is) in
+    ap given (sym c.found.view_is) ∙ modified_kept _ _ _ _ c.look.ensures _ _ found c.same_month.ensures c.if-same_month.true
 
-pub returns-else-same_month : goal.returns-else-same_month
-returns-else-same_month c = let i = c.look-first in modified_left _ _ _ i.result i.ensures c.in-Day.open _ _ (cc) c.same_month.ensures c.if-same_month.false c.look.ensures
-
-pub returns-in-Refused : goal.returns-in-Refused
-unfolding dated
-returns-in-Refused c = let i = c.look-first in modified_refused _ _ _ i.result i.ensures c.in-Refused.n cc
+pub returns : goal.returns
+returns c =
+    let found = c.in_ok-found.was ∙ ap Ok (sym c.found.view_is) in
+    modified_left _ _ _ _ c.look.ensures _ _ _ found c.same_month.ensures c.if-same_month.false c.look-2.ensures

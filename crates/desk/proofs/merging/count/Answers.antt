@@ -1,18 +1,21 @@
-use Rattle.std.proofs.Common.{arith}
-use Rattle.desk.proofs.Turning.{count_all, count_all_small, count_small, turn_asks}
+use Rattle.std.proofs.Common.{arith, rules}
+use Rattle.desk.proofs.Turning.{count_all, count_more, count_none, count_small, fewer}
 use Rattle.desk.proofs.merging.count.Goals as goal
 
-pub first_year-t-requires : goal.first_year-t-requires
-first_year-t-requires c = turn_asks _ _ _ _ c.requires c.loop-i-test.true
+pub loop-rest-init : goal.loop-rest-init
+loop-rest-init c = count_none _ _ c.args.lists.desk_kept c.args.lists.house_kept
 
-pub overflow_add-n-in-loop-i : goal.overflow_add-n-in-loop-i
-overflow_add-n-in-loop-i c =
-    let g = c.loop-i.invariant in
-    let t = c.first_year-t.ensures in
-    record { fits = omega (arith, count_small g t c.requires) }
+pub overflow_add-n-in-loop-rest : goal.overflow_add-n-in-loop-rest
+overflow_add-n-in-loop-rest c = record { fits = omega (arith, count_small c.loop-rest.invariant c.first_year-t.ensures) }
+
+pub loop-rest-smaller : goal.loop-rest-smaller
+loop-rest-smaller c = fewer _ _ _ _ _ c.first_year-t.ensures _ c.rest_of-rest.ensures.0
+
+pub loop-rest-preserved : goal.loop-rest-preserved
+loop-rest-preserved c = count_more c.loop-rest.invariant c.first_year-t.ensures c.rest_of-rest.ensures
 
 pub overflow_add-result : goal.overflow_add-result
-overflow_add-result c = record { fits = omega (arith, count_all_small _ _ _ _ _ c.requires c.loop-i.invariant c.loop-i-test.false) }
+overflow_add-result c = record { fits = omega (arith, c.loop-rest.invariant.small, count_all c.loop-rest.invariant c.loop-rest.rest.house_kept (search rules)) }
 
 pub returns : goal.returns
-returns c = count_all _ _ _ _ _ c.requires c.loop-i.invariant c.loop-i-test.false
+returns c = count_all c.loop-rest.invariant c.loop-rest.rest.house_kept (search rules)

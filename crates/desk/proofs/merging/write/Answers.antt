@@ -1,17 +1,18 @@
-use Rattle.desk.proofs.Turning.{count_all, laid_all, laid_counts, last_fits_in, laying_more, turn_asks}
+use Rattle.std.proofs.Common.{length, rules, ◌≡◌}
+use Rattle.desk.proofs.Turning.{count_all, fewer, laid_all, last_fits_in, laying_more, laying_none}
 use Rattle.desk.proofs.merging.write.Goals as goal
 
-pub first_year-t-requires : goal.first_year-t-requires
-first_year-t-requires c = turn_asks _ _ _ _ (c.requires.0, c.requires.1) c.loop-i-test.true
+pub loop-rest-init : goal.loop-rest-init
+loop-rest-init c = laying_none _ _ _ c.args.lists.desk_kept c.args.lists.house_kept c.requires
 
-pub loop-i-preserved : goal.loop-i-preserved
-loop-i-preserved c =
-    let g = c.loop-i.invariant in
-    let t = c.first_year-t.ensures in
-    laying_more g t c.requires.2 c.copy.ensures c.copy-in-loop-i.ensures
+pub loop-rest-smaller : goal.loop-rest-smaller
+loop-rest-smaller c = fewer _ _ _ _ _ c.first_year-t.ensures _ c.rest_of-rest.ensures.0
+
+pub loop-rest-preserved : goal.loop-rest-preserved
+loop-rest-preserved c = laying_more c.loop-rest.invariant c.first_year-t.ensures c.copy.ensures c.copy-in-loop-rest.ensures c.rest_of-rest.ensures
 
 pub copy-requires-2 : goal.copy-requires-2
-copy-requires-2 c = last_fits_in c.loop-i.invariant c.requires.1 c.loop-i-test.false c.requires.2
+copy-requires-2 c = last_fits_in c.loop-rest.invariant c.loop-rest.rest.house_kept (search rules)
 
 pub returns : goal.returns
-returns c = (count_all _ _ _ _ _ (c.requires.0, c.requires.1) (laid_counts c.loop-i.invariant) c.loop-i-test.false, laid_all c.loop-i.invariant c.requires.1 c.loop-i-test.false c.requires.2 c.copy-2.ensures)
+returns c = let h : length c.loop-rest.rest.desk.now ≡ 0 = search rules in (count_all c.loop-rest.invariant.counts c.loop-rest.rest.house_kept h, laid_all c.loop-rest.invariant c.loop-rest.rest.house_kept h c.copy-2.ensures)

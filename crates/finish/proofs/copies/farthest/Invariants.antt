@@ -1,9 +1,6 @@
-use Rattle.std.proofs.Common.{length, ◌-◌}
-use Rattle.finish.proofs.Far.{Far}
+use Rattle.std.proofs.Common.{◌≡◌, length, take}
+use Rattle.steps.specs.Entries.{farthest}
 use Rattle.finish.proofs.copies.farthest.Given as goal
 
-abbrev pub invariant-loop-i : goal.invariant-loop-i
-invariant-loop-i l = Far l.paid l.unadjusted l.most l.i
-
-abbrev pub decreases-loop-i : goal.decreases-loop-i
-decreases-loop-i l = length l.paid - l.i
+abbrev pub invariant-loop-a : goal.invariant-loop-a
+invariant-loop-a l = l.most ≡ farthest (take (length l.yielded) l.paid) (take (length l.yielded) l.unadjusted)

@@ -1,35 +1,16 @@
-use Rattle.finish.proofs.Moves.{moving}
+use Rattle.std.specs.Prelude.{Ok}
+use Rattle.std.proofs.Common.{rules, ap, sym, ◌∙◌}
+use Rattle.finish.proofs.Moves.{in_place_moved, in_place_none, in_place_refused, in_place_whole}
 use Rattle.finish.proofs.moving.move_all.Goals as goal
 
 pub loop-i-init : goal.loop-i-init
-loop-i-init c = search moving
+loop-i-init c = in_place_none _ _ _ _
 
-pub offset_bounds-s-i : goal.offset_bounds-s-i
-offset_bounds-s-i c = search moving
-
-pub bounds-s-i : goal.bounds-s-i
-bounds-s-i c = search moving
-
-pub moved-next-requires : goal.moved-next-requires
-moved-next-requires c = search moving
-
-pub returns-in-Refused : goal.returns-in-Refused
-returns-in-Refused c = λ ok. search moving
-
-pub offset_bounds-s-i-in-Day : goal.offset_bounds-s-i-in-Day
-offset_bounds-s-i-in-Day c = search moving
-
-pub bounds-s-i-in-Day : goal.bounds-s-i-in-Day
-bounds-s-i-in-Day c = search moving
-
-pub overflow_add-i : goal.overflow_add-i
-overflow_add-i c = search moving
-
-pub loop-i-smaller : goal.loop-i-smaller
-loop-i-smaller c = search moving
+pub returns-in_err-s : goal.returns-in_err-s
+returns-in_err-s c = in_place_refused c.loop-i.invariant (search rules) _ c.moved.ensures _ _ c.in_err-s.was c.from_residual.ensures
 
 pub loop-i-preserved : goal.loop-i-preserved
-loop-i-preserved c = search moving
+loop-i-preserved c = in_place_moved c.loop-i.invariant (search rules) _ c.moved.ensures _ (c.in_ok-s.was ∙ ap Ok (sym c.s.view_is))
 
 pub returns : goal.returns
-returns c = λ ok. search moving
+returns c = in_place_whole c.loop-i.invariant (search rules)

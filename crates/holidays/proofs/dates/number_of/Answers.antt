@@ -1,11 +1,9 @@
-use Rattle.holidays.proofs.DateWays.{Numbers_of}
+use Rattle.std.proofs.Common.{◌∙◌, ap, sym, Ok}
+use Rattle.holidays.proofs.DateWays.{number_is, number_ways}
 use Rattle.holidays.proofs.dates.number_of.Goals as goal
 
-pub returns-in-Day : goal.returns-in-Day
-returns-in-Day c = search Numbers_of
+pub returns-in-Ok : goal.returns-in-Ok
+returns-in-Ok c = number_is c.args.year c.args.month c.args.day c.make.ensures c.d.inside.day (c.in-Ok.is ∙ ap Ok (sym c.d.view_is)) c.requires c.on_by_cycles.ensures
 
-pub returns-in-Refused : goal.returns-in-Refused
-returns-in-Refused c = search Numbers_of
-
-pub on_by_cycles-requires : goal.on_by_cycles-requires
-on_by_cycles-requires c = search Numbers_of
+pub returns-in-Err : goal.returns-in-Err
+returns-in-Err c = search number_ways

@@ -1,17 +1,11 @@
-use Rattle.holidays.proofs.DateWays.{digits_of}
+use Rattle.holidays.proofs.DateWays.{pair_not, pair_then_not, pair_is}
 use Rattle.holidays.proofs.dates.pair_of.Goals as goal
 
-pub returns-then-a-lt48 : goal.returns-then-a-lt48
-returns-then-a-lt48 c = search digits_of
+pub returns-in_err-tens : goal.returns-in_err-tens
+returns-in_err-tens c = rw c.from_residual.ensures (pair_not c.digit.ensures c.in_err-tens.was)
 
-pub returns-then-a-gt57 : goal.returns-then-a-gt57
-returns-then-a-gt57 c = search digits_of
-
-pub returns-then-b-lt48 : goal.returns-then-b-lt48
-returns-then-b-lt48 c = search digits_of
-
-pub returns-then-b-gt57 : goal.returns-then-b-gt57
-returns-then-b-gt57 c = search digits_of
+pub returns-in_err-ones : goal.returns-in_err-ones
+returns-in_err-ones c = rw c.from_residual-in_err-ones.ensures (pair_then_not c.digit.ensures _ c.in_ok-tens.was c.digit-2.ensures c.in_err-ones.was)
 
 pub returns : goal.returns
-returns c = search digits_of
+returns c = pair_is c.digit.ensures _ c.in_ok-tens.was c.digit-2.ensures _ c.in_ok-ones.was

@@ -1,11 +1,11 @@
-use Rattle.holidays.proofs.DateWays.{dates_of_lem}
+use Rattle.holidays.proofs.DateWays.{said_ways}
 use Rattle.holidays.proofs.dates.read_all_day.Goals as goal
 
-pub returns-then-d-eq0 : goal.returns-then-d-eq0
-returns-then-d-eq0 c = search dates_of_lem
-
 pub returns-then-is_over : goal.returns-then-is_over
-returns-then-is_over c = search dates_of_lem
+returns-then-is_over c = search said_ways
 
-pub returns : goal.returns
-returns c = search dates_of_lem
+pub returns-in-None : goal.returns-in-None
+returns-in-None c = search said_ways
+
+pub returns-else-is_over : goal.returns-else-is_over
+returns-else-is_over c = search said_ways

@@ -1,17 +1,18 @@
-use Rattle.holidays.proofs.DateWays.{day_read, days_of_lem}
+use Rattle.std.proofs.Common.{arith}
+use Rattle.holidays.proofs.DateWays.{pair_few, day_year, day_no_day, day_never}
 use Rattle.holidays.proofs.dates.read_day.Goals as goal
 
-pub returns-then-c-eq100 : goal.returns-then-c-eq100
-returns-then-c-eq100 c = search days_of_lem
+pub returns-in_err-day : goal.returns-in_err-day
+returns-in_err-day c = rw c.from_residual-in_err-day.ensures (day_no_day c.read_pair.ensures _ _ c.in_ok-century.was c.read_pair-2.ensures _ _ c.in_ok-year.was c.read_pair-3.ensures _ _ c.in_ok-month.was c.read_pair-4.ensures c.in_err-day.was)
 
-pub returns-then-y-eq100 : goal.returns-then-y-eq100
-returns-then-y-eq100 c = search days_of_lem
+pub overflow_mul-century : goal.overflow_mul-century
+overflow_mul-century c = record { fits = omega (arith, pair_few c.read_pair.ensures _ _ c.in_ok-century.was) }
 
-pub returns-then-m-eq100 : goal.returns-then-m-eq100
-returns-then-m-eq100 c = search days_of_lem
+pub overflow_add-century : goal.overflow_add-century
+overflow_add-century c = record { fits = omega (arith, day_year c.read_pair.ensures _ _ c.in_ok-century.was c.read_pair-2.ensures _ _ c.in_ok-year.was c.read_pair-3.ensures) }
 
-pub returns-then-d-eq100 : goal.returns-then-d-eq100
-returns-then-d-eq100 c = search days_of_lem
+pub number_of-requires : goal.number_of-requires
+number_of-requires c = day_year c.read_pair.ensures _ _ c.in_ok-century.was c.read_pair-2.ensures _ _ c.in_ok-year.was c.read_pair-3.ensures
 
-pub returns : goal.returns
-returns c = day_read c.requires c.read_pair-c.ensures c.if-c-eq100.false c.read_pair-y.ensures c.if-y-eq100.false c.read_pair-m.ensures c.if-m-eq100.false c.read_pair-d.ensures c.if-d-eq100.false c.number_of.ensures
+pub returns-in_err-number : goal.returns-in_err-number
+returns-in_err-number c = rw c.from_residual-in_err-number.ensures (day_never c.read_pair.ensures _ _ c.in_ok-century.was c.read_pair-2.ensures _ _ c.in_ok-year.was c.read_pair-3.ensures _ _ c.in_ok-month.was c.read_pair-4.ensures _ _ c.in_ok-day.was c.number_of.ensures c.in_err-number.was)

@@ -1,14 +1,5 @@
-use Rattle.holidays.proofs.DateWays.{pairs_of}
+use Rattle.holidays.proofs.DateWays.{pair_bad}
 use Rattle.holidays.proofs.dates.read_pair.Goals as goal
 
-pub next-requires-in-Byte : goal.next-requires-in-Byte
-next-requires-in-Byte c = search pairs_of
-
-pub returns-in-End : goal.returns-in-End
-returns-in-End c = search pairs_of
-
-pub returns-in-End-next : goal.returns-in-End-next
-returns-in-End-next c = search pairs_of
-
-pub returns-in-Byte-next : goal.returns-in-Byte-next
-returns-in-Byte-next c = search pairs_of
+pub returns-in_err-number : goal.returns-in_err-number
+returns-in_err-number c = rw c.from_residual-in_err-number.ensures (pair_bad c.next.ensures _ _ c.in_ok-a.was c.next-2.ensures _ _ c.in_ok-b.was c.pair_of.ensures c.in_err-number.was)

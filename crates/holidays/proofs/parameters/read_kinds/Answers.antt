@@ -1,11 +1,8 @@
 use Rattle.holidays.proofs.ParameterWays.{kindings}
 use Rattle.holidays.proofs.parameters.read_kinds.Goals as goal
 
-pub loop-i-init : goal.loop-i-init
-loop-i-init c = search kindings
+pub loop-place-preserved : goal.loop-place-preserved
+loop-place-preserved c = search kindings
 
-pub loop-i-preserved : goal.loop-i-preserved
-loop-i-preserved c = search kindings
-
-pub returns-else-p-eq59 : goal.returns-else-p-eq59
-returns-else-p-eq59 c = search kindings
+pub returns-else-eq : goal.returns-else-eq
+returns-else-eq c = search kindings

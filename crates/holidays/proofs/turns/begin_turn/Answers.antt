@@ -1,11 +1,11 @@
 use Rattle.holidays.proofs.TurnWays.{begin_ways}
 use Rattle.holidays.proofs.turns.begin_turn.Goals as goal
 
-pub returns-in-Open : goal.returns-in-Open
-returns-in-Open c = search begin_ways
+pub returns-in_default : goal.returns-in_default
+returns-in_default c = search begin_ways
 
-pub returns-in-Broken : goal.returns-in-Broken
-returns-in-Broken c = search begin_ways
+pub returns-in-None : goal.returns-in-None
+returns-in-None c = search begin_ways
 
-pub returns : goal.returns
-returns c = search begin_ways
+pub returns-in-Some-open_part : goal.returns-in-Some-open_part
+returns-in-Some-open_part c = search begin_ways

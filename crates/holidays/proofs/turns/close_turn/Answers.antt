@@ -1,8 +1,9 @@
-use Rattle.holidays.proofs.TurnWays.{close_ways}
+use Rattle.refusal.specs.Laws.Answers.{handed}
+use Rattle.holidays.proofs.TurnWays.{close_stops, close_goes}
 use Rattle.holidays.proofs.turns.close_turn.Goals as goal
 
-pub returns-in-Refused : goal.returns-in-Refused
-returns-in-Refused c = search close_ways
+pub returns-in_err-count : goal.returns-in_err-count
+returns-in_err-count c = rw (handed _ _ c.from_residual.ensures) (close_stops c.args.st c.args.room c.args.map.now c.close.ensures _ c.in_err-count.was)
 
-pub returns-in-Days : goal.returns-in-Days
-returns-in-Days c = search close_ways
+pub returns : goal.returns
+returns c = close_goes _ _ _ c.close.ensures _ c.in_ok-count.was

@@ -1,12 +1,6 @@
 use Rattle.holidays.proofs.TurnWays.{event_ways}
 use Rattle.holidays.proofs.turns.event_turn.Goals as goal
 
-pub returns-in-39346374228 : goal.returns-in-39346374228
-returns-in-39346374228 c = search event_ways
-
-pub returns-in-38409668 : goal.returns-in-38409668
-returns-in-38409668 c = search event_ways
-
 pub returns-in-53040517 : goal.returns-in-53040517
 returns-in-53040517 c = search event_ways
 

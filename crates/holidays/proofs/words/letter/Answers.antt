@@ -1,20 +1,21 @@
-use Rattle.holidays.proofs.WordWays.{letters}
+use Rattle.std.proofs.Common.{arith}
+use Rattle.holidays.proofs.WordWays.{letter_large, letter_small, letters}
 use Rattle.holidays.proofs.words.letter.Goals as goal
 
-pub returns-then-b-eq45 : goal.returns-then-b-eq45
-returns-then-b-eq45 c = search letters
+pub returns-in-45 : goal.returns-in-45
+returns-in-45 c = search letters
 
-pub returns-then-b-lt65 : goal.returns-then-b-lt65
-returns-then-b-lt65 c = search letters
+pub returns-in-65-to-90 : goal.returns-in-65-to-90
+returns-in-65-to-90 c = letter_large (omega arith) (omega arith)
 
-pub returns-then-b-le90 : goal.returns-then-b-le90
-returns-then-b-le90 c = search letters
+pub returns-in-97-to-122 : goal.returns-in-97-to-122
+returns-in-97-to-122 c = letter_small (omega arith) (omega arith)
 
-pub returns-then-b-lt97 : goal.returns-then-b-lt97
-returns-then-b-lt97 c = search letters
+pub returns-in_default : goal.returns-in_default
+returns-in_default c = search letters
 
-pub returns-then-b-le122 : goal.returns-then-b-le122
-returns-then-b-le122 c = search letters
+pub returns-in_default-2 : goal.returns-in_default-2
+returns-in_default-2 c = search letters
 
-pub returns : goal.returns
-returns c = search letters
+pub returns-in_default-3 : goal.returns-in_default-3
+returns-in_default-3 c = search letters

@@ -3,7 +3,7 @@ use Rattle.holidays.proofs.WordWays.{Piecing}
 use Rattle.holidays.proofs.words.read_piece.Given as goal
 
 abbrev pub invariant-loop-b : goal.invariant-loop-b
-invariant-loop-b l = Piecing l.file l.at l.line l.equals l.quoted l.i l.n l.k l.q
+invariant-loop-b l = Piecing l.file l.fn.from.at l.fn.from.line l.equals l.quoted l.place.at l.place.line l.number l.inside
 
 abbrev pub decreases-loop-b : goal.decreases-loop-b
-decreases-loop-b l = length l.file - l.i
+decreases-loop-b l = length l.file - l.place.at

@@ -1,39 +1,17 @@
-use Rattle.imm.proofs.Ways.{letter_search}
-use Rattle.imm.specs.Imm.{letters}
+use Rattle.std.proofs.Common.{arith, ap, ◌≡◌, ◌+◌}
+use Rattle.imm.proofs.Ways.{letter_place, place_bound}
+use Rattle.imm.specs.Imm.{letters, month_of, place_in, upper}
 use Rattle.imm.proofs.codes.month_of.Goals as goal
 
-pub capital-b-requires : goal.capital-b-requires
-unfolding letters
-capital-b-requires c = search letter_search
+at : (c : goal.After-unwrap_or-place) → c.unwrap_or-place.result ≡ place_in (upper c.args.letter) letters
+at c = letter_place _ _ _ _ c.to_ascii_uppercase.ensures.value c.place_of.ensures c.unwrap_or-place.ensures
 
-pub loop-m-init : goal.loop-m-init
-unfolding letters
-loop-m-init c = search letter_search
-
-pub overflow_cast-m : goal.overflow_cast-m
-unfolding letters
-overflow_cast-m c = search letter_search
+pub overflow_cast-result : goal.overflow_cast-result
+overflow_cast-result c = record { fits = omega (arith, at c, place_bound (upper c.args.letter)) }
 
 pub overflow_add-result : goal.overflow_add-result
-unfolding letters
-overflow_add-result c = search letter_search
-
-pub returns-then-m-b : goal.returns-then-m-b
-unfolding letters
-returns-then-m-b c = search letter_search
-
-pub overflow_add-m : goal.overflow_add-m
-unfolding letters
-overflow_add-m c = search letter_search
-
-pub loop-m-smaller : goal.loop-m-smaller
-unfolding letters
-loop-m-smaller c = search letter_search
-
-pub loop-m-preserved : goal.loop-m-preserved
-unfolding letters
-loop-m-preserved c = search letter_search
+overflow_add-result c = record { fits = omega (arith, at c, place_bound (upper c.args.letter)) }
 
 pub returns : goal.returns
-unfolding letters
-returns c = search letter_search
+unfolding month_of
+returns c = ap (λ k. k + 1) (at c)

@@ -1,9 +1,5 @@
-use Rattle.std.proofs.Common.{length, ◌-◌}
 use Rattle.opendays.proofs.Filling.{Stepping}
 use Rattle.opendays.proofs.counts.step_from.Given as goal
 
 abbrev pub invariant-loop-i : goal.invariant-loop-i
 invariant-loop-i l = Stepping l.up l.place l.initial.index l.index l.i
-
-abbrev pub decreases-loop-i : goal.decreases-loop-i
-decreases-loop-i l = length l.initial.index - l.i

@@ -1,9 +1,5 @@
-use Rattle.std.proofs.Common.{length, ◌-◌}
 use Rattle.opendays.proofs.Passing.{Passing}
 use Rattle.opendays.proofs.listed.pass.Given as goal
 
 abbrev pub invariant-loop-place : goal.invariant-loop-place
 invariant-loop-place l = Passing l.mask l.closed l.from l.to l.place l.count
-
-abbrev pub decreases-loop-place : goal.decreases-loop-place
-decreases-loop-place l = length l.closed - l.place

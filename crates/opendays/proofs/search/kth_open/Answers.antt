@@ -10,8 +10,8 @@ loop-place-init c = search moving
 pub returns-then-day-x : goal.returns-then-day-x
 returns-then-day-x c = search moving
 
-pub loop-place-preserved-then-not-is_weekly_closed : goal.loop-place-preserved-then-not-is_weekly_closed
-loop-place-preserved-then-not-is_weekly_closed c = search moving
+pub loop-place-preserved-then-is_weekly_closed : goal.loop-place-preserved-then-is_weekly_closed
+loop-place-preserved-then-is_weekly_closed c = search moving
 
 pub loop-place-preserved : goal.loop-place-preserved
 loop-place-preserved c = search moving

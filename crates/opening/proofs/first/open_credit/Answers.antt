@@ -1,17 +1,18 @@
-use Rattle.calendar.specs.Laws.Moved.{took}
-use Rattle.opening.proofs.Openers.{first_date}
-use Rattle.opening.specs.First.{found_sure}
+use Rattle.std.proofs.Common.{refl}
+use Rattle.opening.proofs.Openers.{credit_earlier, credit_put}
+use Rattle.opening.specs.First.{first_with, found_sure}
 use Rattle.steps.specs.Generate.{credit_opening}
+use Rattle.working.specs.Dates.{dated_on, dated_stops}
 use Rattle.opening.proofs.first.open_credit.Goals as goal
 
-pub returns-in-Refused : goal.returns-in-Refused
+pub returns-in_err-paid : goal.returns-in_err-paid
 unfolding credit_opening
-returns-in-Refused c = record { run = λ f. search (first_date, took _ _ _ _ c.date_of.ensures (c.adjust.ensures f.calendar), c.in-Refused.is) }
+returns-in_err-paid c = rw (← c.q.view_is) (record { run = λ f. dated_stops _ _ _ _ (c.adjusted.ensures f.calendar) c.in_err-paid.was _ c.from_residual.ensures })
 
-pub returns-then-q-moved : goal.returns-then-q-moved
+pub returns-then-q-paid : goal.returns-then-q-paid
 unfolding credit_opening
-returns-then-q-moved c = record { run = λ f. search (first_date, found_sure, took _ _ _ _ c.date_of.ensures (c.adjust.ensures f.calendar), c.in-Day.is, c.if-q-moved.true, c.open_earlier.ensures, c.with_sure.ensures) }
+returns-then-q-paid c = rw (← c.q.view_is) (record { run = λ f. dated_on _ _ _ _ _ (c.adjusted.ensures f.calendar) c.in_ok-paid.was refl (credit_earlier _ _ _ _ c.if-q-paid.true (first_with _ _ c.open_earlier.ensures f.part (found_sure _ _ _ (c.adjusted.ensures f.calendar) c.in_ok-paid.was) c.with_sure.ensures)) })
 
 pub returns : goal.returns
 unfolding credit_opening
-returns c = record { run = λ f. search (first_date, found_sure, took _ _ _ _ c.date_of.ensures (c.adjust.ensures f.calendar), c.in-Day.is, c.if-q-moved.false, c.put_first.ensures, c.with_sure-2.ensures) }
+returns c = rw (← c.q.view_is) (record { run = λ f. dated_on _ _ _ _ _ (c.adjusted.ensures f.calendar) c.in_ok-paid.was refl (credit_put _ _ _ _ c.if-q-paid.false (first_with _ _ c.put_first.ensures f.part (found_sure _ _ _ (c.adjusted.ensures f.calendar) c.in_ok-paid.was) c.with_sure-2.ensures)) })

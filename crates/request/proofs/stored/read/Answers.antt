@@ -1,4 +1,4 @@
-use Rattle.request.proofs.StoredWays.{reads_in}
+use Rattle.request.proofs.AskWays.{reads_in}
 use Rattle.request.proofs.stored.read.Goals as goal
 
 pub returns-then-bytes-lt20000 : goal.returns-then-bytes-lt20000

@@ -5,9 +5,9 @@ use Rattle.request.proofs.writing.put_anchors.Goals as goal
 
 pub returns : goal.returns
 returns c =
-    let q = c.args.q in
-    let second = spelt 9 (bytes4 q.penultimate.day) in
+    let q = c.args.q.now in
+    let second = spelt 9 (bytes4 q.penultimate) in
     let mask = spelt 10 (q.mask ∷ []) in
-    laid_then _ _ _ (spelt 8 (bytes4 q.first.day)) (second ++ mask) _ _ c.put_date.ensures
+    laid_then _ _ _ (spelt 8 (bytes4 q.first)) (second ++ mask) _ _ c.put_date.ensures
     (laid_then _ _ _ second mask _ _ c.put_date-2.ensures c.put_byte.ensures refl)
     refl

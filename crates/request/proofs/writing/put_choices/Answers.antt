@@ -7,7 +7,7 @@ use Rattle.request.proofs.writing.put_choices.Goals as goal
 
 pub returns : goal.returns
 returns c =
-    let q = c.args.q in
+    let q = c.args.q.now in
     let convention = spelt 5 (convention_number q.convention ∷ []) in
     let terminal = spelt 6 (convention_number q.terminal ∷ []) in
     let monthend = spelt 7 (bit q.monthend ∷ []) in

@@ -5,9 +5,9 @@ use Rattle.request.proofs.writing.put_dates.Goals as goal
 
 pub returns : goal.returns
 returns c =
-    let q = c.args.q in
-    let second = spelt 2 (bytes4 q.termination.day) in
+    let q = c.args.q.now in
+    let second = spelt 2 (bytes4 q.termination) in
     let tenor = spelt 3 (tenor_body q.tenor) in
-    laid_then _ _ _ (spelt 1 (bytes4 q.effective.day)) (second ++ tenor) _ _ c.put_date.ensures
+    laid_then _ _ _ (spelt 1 (bytes4 q.effective)) (second ++ tenor) _ _ c.put_date.ensures
     (laid_then _ _ _ second tenor _ _ c.put_date-2.ensures c.put_tenor.ensures refl)
     refl

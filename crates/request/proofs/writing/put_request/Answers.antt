@@ -11,7 +11,7 @@ put_dates-requires c =
 pub put_closed-requires : goal.put_closed-requires
 put_closed-requires c =
     let p = c.requires in
-    (omega (arith, p.0), few c.args.q c.args.closed.now p.1)
+    (omega (arith, p.0), few c.args.q.now c.args.closed.now p.1)
 
 pub returns : goal.returns
 returns c =

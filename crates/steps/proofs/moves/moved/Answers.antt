@@ -1,12 +1,11 @@
 use Rattle.std.proofs.Common.{refl}
 use Rattle.calendar.specs.Laws.HowFar.{took_end}
 use Rattle.calendar.specs.Laws.Moved.{took}
-use Rattle.date.specs.Date.{dated}
 use Rattle.steps.specs.Finish.{moved}
 use Rattle.steps.proofs.moves.moved.Goals as goal
 
 pub returns-in-Stay : goal.returns-in-Stay
-unfolding dated moved
+unfolding moved
 returns-in-Stay c = λ ok. rw c.in-Stay.is refl
 
 pub returns-in-ThirdWednesdays : goal.returns-in-ThirdWednesdays

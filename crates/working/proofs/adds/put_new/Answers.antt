@@ -1,31 +1,30 @@
-use Rattle.calendar.specs.Laws.Moved.{took}
 use Rattle.working.proofs.Additions.{new_closed, new_put, new_same, new_stop}
 use Rattle.working.proofs.adds.put_new.Goals as goal
 
-pub returns-in-Refused : goal.returns-in-Refused
-returns-in-Refused c =
+pub returns-in_err-a : goal.returns-in_err-a
+returns-in_err-a c =
     record {
-      run = λ a.
-          new_stop _ _ _ _ _ a _ _ c.newest-newest.ensures c.front_of.result c.front_of.ensures _ c.in-Refused.is;
+      run = λ l.
+          new_stop _ _ _ _ _ l _ _ c.newest-newest.ensures _ c.front_of.ensures _ c.in_err-a.was _ c.from_residual.ensures;
     }
 
-pub returns-in-Refused-date_of : goal.returns-in-Refused-date_of
-returns-in-Refused-date_of c =
+pub returns-in_err-b : goal.returns-in_err-b
+returns-in_err-b c =
     record {
-      run = λ a.
-          new_closed _ _ _ _ _ a _ _ c.newest-newest.ensures c.front_of.result c.front_of.ensures _ c.in-Day.is c.date_of.result (λ ok. took _ _ _ _ c.date_of.ensures (c.adjust.ensures ok)) _ c.in-Refused-date_of.is;
+      run = λ l.
+          new_closed _ _ _ _ _ l _ _ c.newest-newest.ensures _ c.front_of.ensures _ c.in_ok-a.was _ c.adjusted.ensures _ c.in_err-b.was _ c.from_residual-in_err-b.ensures;
     }
 
 pub returns-then-a-b : goal.returns-then-a-b
 returns-then-a-b c =
     record {
-      run = λ a.
-          new_same _ _ _ _ _ a _ _ c.newest-newest.ensures c.front_of.result c.front_of.ensures _ c.in-Day.is c.date_of.result (λ ok. took _ _ _ _ c.date_of.ensures (c.adjust.ensures ok)) _ c.in-Day-date_of.is c.if-a-b.true;
+      run = λ l.
+          new_same _ _ _ _ _ l _ _ c.newest-newest.ensures _ c.front_of.ensures _ c.in_ok-a.was _ c.adjusted.ensures _ c.in_ok-b.was c.if-a-b.true;
     }
 
 pub returns : goal.returns
 returns c =
     record {
-      run = λ a.
-          new_put _ _ _ _ _ a _ _ c.newest-newest.ensures c.front_of.result c.front_of.ensures _ c.in-Day.is c.date_of.result (λ ok. took _ _ _ _ c.date_of.ensures (c.adjust.ensures ok)) _ c.in-Day-date_of.is _ _ _ c.if-a-b.false c.put_front.ensures;
+      run = λ l.
+          new_put _ _ _ _ _ l _ _ c.newest-newest.ensures _ c.front_of.ensures _ c.in_ok-a.was _ c.adjusted.ensures _ c.in_ok-b.was _ _ _ c.if-a-b.false c.put_front.ensures;
     }

@@ -1,5 +1,4 @@
-use Rattle.std.proofs.Common.{length, suc, ◌-◌, ◌≡◌, ◌≤◌}
-use Rattle.date.specs.Date.{SPAN_LAST}
+use Rattle.std.proofs.Common.{length, ◌≡◌}
 use Rattle.steps.specs.Generate.{last_try, walk}
 use Rattle.working.proofs.Walking.{Going}
 use Rattle.working.specs.Part.{Begun, held, working}
@@ -8,7 +7,4 @@ use Rattle.working.proofs.walks.turns.Given as goal
 
 abbrev pub invariant-loop-k : goal.invariant-loop-k
 invariant-loop-k l =
-    (l.k ≤ suc SPAN_LAST) × (length l.work ≡ length l.initial.work) × (length l.paid ≡ length l.initial.paid) × (length l.marks ≡ length l.initial.marks) × (Begun l.closed l.room l.initial.n (working l.initial.work l.initial.marks) → Started l.way.mask l.closed l.way.convention l.course.back l.initial.n l.initial.work l.initial.paid l.first → Going l.course l.way.mask l.closed l.way.convention l.room l.first.start (walk (turn_on l.course l.way.mask l.closed l.way.convention) l.room last_try 1 (held l.course.back l.initial.n (working l.initial.work l.initial.marks))) (working l.work l.marks) l.paid l.n l.k l.known)
-
-abbrev pub decreases-loop-k : goal.decreases-loop-k
-decreases-loop-k l = suc SPAN_LAST - l.k
+    (length l.work ≡ length l.initial.work) × (length l.paid ≡ length l.initial.paid) × (length l.marks ≡ length l.initial.marks) × (Begun l.closed l.room l.initial.n (working l.initial.work l.initial.marks) → Started l.way.mask l.closed l.way.convention l.course.back l.initial.n l.initial.work l.initial.paid l.first → Going l.course l.way.mask l.closed l.way.convention l.room l.first.start (walk (turn_on l.course l.way.mask l.closed l.way.convention) l.room last_try 1 (held l.course.back l.initial.n (working l.initial.work l.initial.marks))) (working l.work l.marks) l.paid l.n l.k l.known)

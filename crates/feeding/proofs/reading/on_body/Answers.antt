@@ -1,5 +1,0 @@
-use Rattle.feeding.proofs.ByteWays.{bytes}
-use Rattle.feeding.proofs.reading.on_body.Goals as goal
-
-pub returns : goal.returns
-returns c = search bytes

@@ -1,5 +1,0 @@
-use Rattle.feeding.proofs.ByteWays.{bytes}
-use Rattle.feeding.proofs.reading.spoil.Goals as goal
-
-pub returns : goal.returns
-returns c = search bytes

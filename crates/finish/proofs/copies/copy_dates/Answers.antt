@@ -1,5 +1,0 @@
-use Rattle.finish.proofs.Copying.{copies}
-use Rattle.finish.proofs.copies.copy_dates.Goals as goal
-
-pub returns : goal.returns
-returns c = search copies

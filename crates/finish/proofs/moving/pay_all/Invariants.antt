@@ -1,9 +1,0 @@
-use Rattle.std.proofs.Common.{length, ◌-◌}
-use Rattle.finish.proofs.Moves.{Beside}
-use Rattle.finish.proofs.moving.pay_all.Given as goal
-
-abbrev pub invariant-loop-i : goal.invariant-loop-i
-invariant-loop-i l = Beside l.mask l.closed l.what l.work l.initial.paid l.paid l.i
-
-abbrev pub decreases-loop-i : goal.decreases-loop-i
-decreases-loop-i l = length l.work - l.i

@@ -1,7 +1,0 @@
-use Rattle.std.proofs.Common.{ap, ◌∙◌}
-use Rattle.imm.specs.Imm.{code_after, next_code_with_code}
-use Rattle.imm.proofs.next_code_with_code.Goals as goal
-
-pub returns : goal.returns
-unfolding next_code_with_code
-returns c = c.code_after.ensures ∙ ap code_after c.next_date_with_code.ensures
