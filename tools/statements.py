@@ -8,7 +8,8 @@ Ends with status 1 and a line for each public function that has a `requires`, no
 that its statement rules out, and for each wrong program of no public function; and, unless docs/EXCEPTIONS.md names it, for each
 that promises under a premise, and for each list that is lent to be written whose exit its statement does not speak of; and for each
 function of `capi` that `capi_c` does not export to C under its name, with its parameters and its statement. A function is public if it
-is `pub fn` in the root of a library or in modules that are `pub mod` all the way, or the `try_from` of an `impl TryFrom` there; programs have none, and neither has `capi_c`.
+is `pub fn` in the root of a library or in modules that are `pub mod` all the way, or there the `from` or `try_from` of an `impl` that says what it
+gives, or a function of an `impl` of a `pub trait` of the same file; programs have none, and neither has `capi_c`.
 """
 import glob
 import os
@@ -55,8 +56,13 @@ def modules(crate):
 
 FUNCTION = re.compile(r"^(?P<in> *)pub (?:extern \"C\" )?fn (?P<name>\w+)(?P<rest>.*?)^(?P=in)\{", re.M | re.S)
 IMPL = re.compile(r"^impl(?:<[^>]*>)? (\w+)(?:<[^>]*>)? \{", re.M)
-# A conversion that may fail: what it gives is a member of its impl.
-CONVERSION = re.compile(r"^impl TryFrom<[^>]+> for (\w+) \{.*?^    ghost try_from_gives = \{(.*?)\};$", re.M | re.S)
+# A conversion: what it gives is a member of its impl.
+CONVERSION = re.compile(r"^impl (?:Try)?From<[^>]+> for (\w+) \{\n.*?^    ghost ((?:try_)?from)_gives = \{(.*?)\};$", re.M | re.S)
+# A trait, its body; and an impl of one, its body.
+TRAIT = re.compile(r"^pub trait (\w+)[^{\n]* \{\n(.*?)^\}", re.M | re.S)
+IMPL_OF = re.compile(r"^impl (\w+) for ([\w()]+) \{\n(.*?)^\}", re.M | re.S)
+MEMBER = re.compile(r"^    ghost (\w+) = \{(.*?)\};$", re.M | re.S)
+METHOD = re.compile(r"^    fn (\w+)(.*?);$", re.M | re.S)
 # What stands in a clause's braces; where there are several, each has a name.
 CLAUSE = re.compile(r"^ *(requires|ensures)(?: \w+)? \{(.*?)\}$", re.M | re.S)
 
@@ -72,8 +78,14 @@ def functions():
                 lent = re.findall(r"(\w+): &(?:'\w+ )?mut |&(?:'\w+ )?mut (self)\b", found["rest"])
                 lent = [name or itself for name, itself in lent]
                 yield crate, f"{owner}::{found['name']}", path, clauses, lent
-            for owner, gives in CONVERSION.findall(text):
-                yield crate, f"{place}::{owner}::try_from", path, [("ensures", f"try_from_gives = {' '.join(gives.split())}")], []
+            for owner, name, gives in CONVERSION.findall(text):
+                yield crate, f"{place}::{owner}::{name}", path, [("ensures", f"{name}_gives = {' '.join(gives.split())}")], []
+            traits = dict(TRAIT.findall(text))
+            for trait, owner, body in IMPL_OF.findall(text):
+                members = [("ensures", f"{name} = {' '.join(value.split())}") for name, value in MEMBER.findall(body)]
+                for name, rest in METHOD.findall(traits.get(trait, "")):
+                    clauses = [(kind, " ".join(text.split())) for kind, text in re.findall(r"(requires|ensures)(?: \w+)? \{(.*?)\}$", rest, re.M | re.S)]
+                    yield crate, f"{place}::{owner} as {trait}::{name}", path, members + clauses, []
 
 
 def declared(crate):

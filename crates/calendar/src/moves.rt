@@ -1,14 +1,14 @@
 // How far a date moved: what an adjustment answers, made from the date that a search found.
 ghost use Rattle.std.specs.Prelude.{◌≡◌, ◌≤◌};
 ghost use Rattle.std.proofs.Math.IntN.{sub_ℕ};
-ghost use Rattle.refusal.specs.Answer.{answered, given};
+ghost use Rattle.refusal.specs.Answer.{answered, answered_by, given};
 ghost use Rattle.date.specs.Date.{SPAN_LAST, within_span};
 ghost use Rattle.calendar.specs.Moves.{moved_from, date_of};
 ghost use Rattle.calendar.specs.Inner.Reach.{UpTo};
 
 use crate::Moved;
 use date::{Date, span};
-use refusal::Refusal;
+use refusal::{Refusal, Refuses};
 
 // How many days a day lies after a base. Days after 2399 are never asked for.
 fn days_from(base: u32, day: u32) -> i32
@@ -34,8 +34,8 @@ pub(crate) fn stay(day: u32) -> Result<Moved, Refusal>
 
 // The date that a search found, from the day that it started at.
 #[tactic(auto, unfolding(crate::specs::Moves::moved_from, refusal::specs::Answer::then))]
-pub fn to(base: u32, found: Result<Date, Refusal>) -> Result<Moved, Refusal>
-    ensures { UpTo base (answered found) → answered result ≡ moved_from (given base) (answered found) }
+pub fn to<E: Refuses>(base: u32, found: Result<Date, E>) -> Result<Moved, E>
+    ensures { UpTo base (answered_by E.numbered found) → answered_by E.numbered result ≡ moved_from (given base) (answered_by E.numbered found) }
 {
     let date = found?;
     Ok(Moved {
@@ -46,8 +46,8 @@ pub fn to(base: u32, found: Result<Date, Refusal>) -> Result<Moved, Refusal>
 
 // The date alone.
 #[tactic(auto, unfolding(crate::specs::Moves::date_of))]
-pub fn date_of(m: Result<Moved, Refusal>) -> Result<Date, Refusal>
-    ensures { answered result ≡ date_of (answered m) }
+pub fn date_of<E: Refuses>(m: Result<Moved, E>) -> Result<Date, E>
+    ensures { answered_by E.numbered result ≡ date_of (answered_by E.numbered m) }
 {
     Ok(m?.date)
 }

@@ -1,5 +1,5 @@
 // A calendar that was checked once, for many questions: the list is not looked through again.
-ghost use Rattle.std.specs.Prelude.{◌≡◌, true, IfOk, IsErrOf, ◌↔◌, false};
+ghost use Rattle.std.specs.Prelude.{◌≡◌, true, IfOk, IsErrOf, IsOk, ◌↔◌, false};
 ghost use Rattle.refusal.specs.Answer.{answered};
 ghost use Rattle.calendar.specs.Open.{calendar_ok};
 ghost use Rattle.calendar.specs.Calendar.{is_open_of};
@@ -20,6 +20,7 @@ impl<'a> Calendar<'a> {
     pub fn new(mask: u8, closed: &'a [u32]) -> Result<Calendar<'a>, Refusal>
         ensures same { IfOk result (λ c. (c.mask ≡ mask) × (c.closed.now ≡ closed.now)) }
         ensures refused { IsErrOf result Refusal.Calendar ↔ (calendar_ok mask closed.now ≡ false) }
+        ensures taken { IsOk result ↔ (calendar_ok mask closed.now ≡ true) }
     {
         if crate::is_sound(mask, closed) {
             Ok(Calendar { mask, closed })

@@ -14,9 +14,7 @@ use mir.Syntax.{w64}
 use mir.Val.{to_z, of_z}
 use borrow.Author.Rules.{rules}
 use borrow.Author.Tests.{le-leb, lt-leb}
-use Rattle.refusal.specs.Answer.{Answer, given, refused, answered, ROOM}
-use Rattle.refusal.specs.declared.Refusal.{Refusal}
-use Rattle.refusal.specs.Refusals.{number_of}
+use Rattle.refusal.specs.Answer.{Answer, given, refused, answered_by, ROOM}
 use Rattle.refusal.specs.Laws.Answers.{fails, holds}
 use Rattle.steps.specs.Build.{over}
 use Rattle.fractions.specs.declared.Basis.{Basis}
@@ -57,22 +55,22 @@ module _ (k : Basis) (a b : ℕ) (f : Fraction) (e : fraction f ≡ fraction_of 
 pub ruleset floats = (float_fits, float_from_zero, bits_given, bits_refused, rules)
 
 -- ---- numbers in a lent list
-module _ (places : ℕ) (m : Result (List ℕ) Refusal) (list : List ℕ) {r : ℤ} (s : mag r < 9223372036854775808) where
-  pub numbers_short : length list < places → r ≡ neg_ℤ (pos 14) → Laid places (answered m) (to_z w64 (of_z w64 r)) list list
+module _ {E : Type 0} (number : E → ℕ) (places : ℕ) (m : Result (List ℕ) E) (list : List ℕ) {r : ℤ} (s : mag r < 9223372036854775808) where
+  pub numbers_short : length list < places → r ≡ neg_ℤ (pos 14) → Laid places (answered_by number m) (to_z w64 (of_z w64 r)) list list
   unfolding with_places laid
   numbers_short h e =
-      let o : refused ROOM ≡ with_places places list (answered m) = fails ROOM _ _ (lt-leb places (length list) h) in
+      let o : refused ROOM ≡ with_places places list (answered_by number m) = fails ROOM _ _ (lt-leb places (length list) h) in
       record { answer = told_refused done s _ 14 e o; list_after_lem = ap (λ (y : Answer (List ℕ)). laid y list) o }
 
   module _ (h : places ≤ length list) where
-    pub numbers_refused : (n : Refusal) → m ≡ Err n → r ≡ neg_ℤ (pos (number_of n)) → Laid places (answered m) (to_z w64 (of_z w64 r)) list list
+    pub numbers_refused : (n : E) → m ≡ Err n → r ≡ neg_ℤ (pos (number n)) → Laid places (answered_by number m) (to_z w64 (of_z w64 r)) list list
     unfolding with_places laid
     numbers_refused n p e =
-        let o : refused (number_of n) ≡ with_places places list (answered m) = holds ROOM _ _ _ (le-leb places (length list) h) (sym (ap answered p)) in
-        record { answer = told_refused done s _ (number_of n) e o; list_after_lem = ap (λ (y : Answer (List ℕ)). laid y list) o }
+        let o : refused (number n) ≡ with_places places list (answered_by number m) = holds ROOM _ _ _ (le-leb places (length list) h) (sym (ap (answered_by number) p)) in
+        record { answer = told_refused done s _ (number n) e o; list_after_lem = ap (λ (y : Answer (List ℕ)). laid y list) o }
 
-pub numbers_laid : (places : ℕ) (m : Result (List ℕ) Refusal) (list : List ℕ) → places ≤ length list → (numbers list' : List ℕ) → m ≡ Ok numbers → list' ≡ over numbers list → Laid places (answered m) (pos 0) list list'
+pub numbers_laid : {E : Type 0} (number : E → ℕ) (places : ℕ) (m : Result (List ℕ) E) (list : List ℕ) → places ≤ length list → (numbers list' : List ℕ) → m ≡ Ok numbers → list' ≡ over numbers list → Laid places (answered_by number m) (pos 0) list list'
 unfolding with_places laid
-numbers_laid places m list h numbers list' p l =
-    let o : given numbers ≡ with_places places list (answered m) = holds ROOM _ _ _ (le-leb places (length list) h) (sym (ap answered p)) in
+numbers_laid number places m list h numbers list' p l =
+    let o : given numbers ≡ with_places places list (answered_by number m) = holds ROOM _ _ _ (le-leb places (length list) h) (sym (ap (answered_by number) p)) in
     record { answer = ap (one_number_of done) o; list_after_lem = l ∙ ap (λ (y : Answer (List ℕ)). laid y list) o }

@@ -1,14 +1,17 @@
 -- A name written over the start of a list, and the refusal that an answer gives: a law for each way.
 -- Assumes nothing.
-use Prim.Native.Nat.{ℕ, ◌≤◌, ◌<◌}
+use Prim.Native.Nat.{ℕ, ◌+◌, ◌≤◌, ◌<◌}
 use mathlib.Core.Path.{◌≡◌, refl, ap, sym, ◌∙◌}
 use mathlib.Core.Bool.{Bool, true, false, false≢true}
-use mathlib.Core.List.{List, [], ◌∷◌}
+use mathlib.Core.List.{List, [], ◌∷◌, ◌++◌}
 use native.Mathlib.Omega.{arith}
 use lib.Dec.{eqb}
 use lib.IntN.{ℤ, pos, negsuc, neg_ℤ, nat_abs}
 use lib.Signed.{mag, le_z}
-use lib.ListN.{length}
+use lib.ListN.{length, length-set, get_or, take, drop, set}
+use Rattle.std.proofs.Common.{add-one, rules}
+use Rattle.std.proofs.Math.Seq.{paste-suc, take-length}
+use native.Mathlib.Nat.{zero-add}
 use mir.Syntax.{w64}
 use mir.Val.{to_z, of_z}
 use mir.Facts.{to_z_pos}
@@ -22,6 +25,38 @@ use Rattle.steps.specs.Build.{over}
 use Rattle.crossing.specs.Answers.{one_number_of}
 use Rattle.crossing.specs.Names.{name_of, fitting, text_after, Spelled}
 use Rattle.crossing.specs.Laws.Calls.{told_refused}
+
+-- ---- letters written one after another
+pub record Writing (name old new : List ℕ) (k : ℕ) : Type 0 where
+  pub within : k ≤ length name
+  pub long : length new ≡ length old
+  pub same : new ≡ take k name ++ drop k old
+
+module _ {name old : List ℕ} where
+  pub writing_start : Writing name old old 0
+  writing_start = record { within = omega arith; long = refl; same = refl }
+
+  pub writing_more : {new : List ℕ} {k : ℕ} {x : ℕ} → length name ≤ length old → Writing name old new k → k < length name → x ≡ get_or name k 0 → Writing name old (set new k x) (k + 1)
+  writing_more {new} {k} {x} room w h e =
+      record {
+        within = omega (arith, h);
+        long = length-set new k x ∙ w.long;
+        same =
+            ap (λ (l : List ℕ). set l k x) w.same
+            ∙ ap (λ (y : ℕ). set (take k name ++ drop k old) k y) e
+            ∙ rw (add-one k) (simp (zero-add) at (paste-suc old 0 name k 0 (omega (arith, room)) h));
+      }
+
+  pub writing_end : {new : List ℕ} {k : ℕ} → Writing name old new k → length name ≤ k → new ≡ over name old
+  unfolding over
+  writing_end {new} {k} w h =
+      let e : k ≡ length name = omega (arith, w.within, h) in
+      w.same ∙ rw e (rw (take-length name) refl)
+
+  pub writing_long : {new : List ℕ} {k : ℕ} → Writing name old new k → length new ≡ length old
+  writing_long w = w.long
+
+pub ruleset writing = (writing_start, writing_long, writing_more, writing_end, rules)
 
 -- ---- a name that does not fit, and one that was written
 pub spelled_short : (name text : List ℕ) {r : ℤ} → mag r < 9223372036854775808 → length text < length name → r ≡ neg_ℤ (pos 14) → Spelled name (to_z w64 (of_z w64 r)) text text

@@ -1,15 +1,14 @@
 // Answers in one number: what is given, or minus the number of the refusal.
 ghost use Rattle.std.specs.Prelude.{◌≡◌, ℕ, pos, neg_ℤ, ◌+◌, ◌*◌};
 ghost use Rattle.date.specs.Civil.{pick_n};
-ghost use Rattle.refusal.specs.Answer.{answered};
-ghost use Rattle.refusal.specs.Refusals.{number_of};
+ghost use Rattle.refusal.specs.Answer.{answered_by};
 ghost use Rattle.coming.specs.Coming.{said};
 ghost use Rattle.crossing.specs.Answers.{one_number_of, digits, place, yes, two_bytes, marked};
 
 use coming::Coming;
 use date::{Date, Fields};
 use imm::codes::Code;
-use refusal::Refusal;
+use refusal::Refuses;
 use std::cmp::Ordering;
 
 // What crosses to other languages as a number.
@@ -120,14 +119,14 @@ pub fn minus(n: u8) -> i64
     -(n as i64)
 }
 
-pub fn refused(refusal: Refusal) -> i64
-    ensures { result ≡ neg_ℤ (pos (number_of refusal)) }
+pub fn refused<E: Refuses>(refusal: E) -> i64
+    ensures { result ≡ neg_ℤ (pos (E.numbered refusal)) }
 {
     minus(refusal.number())
 }
 
-pub fn one_number<T: Crosses>(answer: Result<T, Refusal>) -> i64
-    ensures { result ≡ one_number_of T.crossing (answered answer) }
+pub fn one_number<T: Crosses, E: Refuses>(answer: Result<T, E>) -> i64
+    ensures { result ≡ one_number_of T.crossing (answered_by E.numbered answer) }
 {
     match answer {
         Ok(value) => value.cross(),

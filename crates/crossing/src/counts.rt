@@ -1,7 +1,7 @@
 // Counts with a sign: they stand in the first place of a lent list, since an answer below zero is a refusal. A list with no
 // place is 14, before all else, and a refusal leaves it as it was.
 ghost use Rattle.std.specs.Prelude.{◌≡◌, ℕ, ℤ};
-ghost use Rattle.refusal.specs.Answer.{answered, then};
+ghost use Rattle.refusal.specs.Answer.{answered, answered_by, then};
 ghost use Rattle.period.specs.Period.{times_of};
 ghost use Rattle.crossing.specs.Answers.{CountPlace, length_in};
 ghost use Rattle.crossing.specs.Numbers.{unit_of};
@@ -9,7 +9,7 @@ ghost use Rattle.crossing.specs.Numbers.{unit_of};
 use crate::answers;
 use calendar::Moved;
 use period::Period;
-use refusal::Refusal;
+use refusal::{Refusal, Refuses};
 
 // What has a count with a sign, which crosses in a lent list, beside a number.
 pub trait Counts {
@@ -43,8 +43,8 @@ impl Counts for Moved {
     }
 }
 
-pub fn put_count<T: Counts + Drop>(answer: Result<T, Refusal>, list: &mut [i32]) -> i64
-    ensures { CountPlace T.number T.count (answered answer) result list.old list.new }
+pub fn put_count<T: Counts + Drop, E: Refuses + Drop>(answer: Result<T, E>, list: &mut [i32]) -> i64
+    ensures { CountPlace T.number T.count (answered_by E.numbered answer) result list.old list.new }
 {
     if list.len() < 1 {
         return answers::refused(Refusal::Room);

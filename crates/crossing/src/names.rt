@@ -1,5 +1,6 @@
 // The names of the refusals, in ASCII.
 ghost use Rattle.std.specs.Prelude.{◌≡◌, ◌≤◌, length};
+ghost use Rattle.steps.specs.Build.{over};
 ghost use Rattle.crossing.specs.Names.{name_of, Spelled};
 
 use crate::answers;
@@ -23,6 +24,16 @@ fn name_in(answer: i64) -> &'static str
     }
 }
 
+// Letter by letter: for `copy_from_slice` the archive asks whoever links it for `memmove`, and for nothing else of that name.
+fn put_letters(name: &[u8], text: &mut [u8])
+    requires { length name.now ≤ length text.old }
+    ensures { text.new ≡ over name.now text.old }
+{
+    for k in 0..name.len() {
+        text[k] = name[k];
+    }
+}
+
 fn put_name(name: &[u8], text: &mut [u8]) -> i64
     requires { length name.now ≤ 16 }
     ensures { Spelled name.now result text.old text.new }
@@ -30,7 +41,7 @@ fn put_name(name: &[u8], text: &mut [u8]) -> i64
     if text.len() < name.len() {
         return answers::refused(Refusal::Room);
     }
-    text[..name.len()].copy_from_slice(name);
+    put_letters(name, text);
     name.len() as i64
 }
 

@@ -3,7 +3,7 @@
 ghost use Rattle.std.specs.Prelude.{◌≡◌, T, pos};
 ghost use Rattle.std.specs.Float.{binary64};
 ghost use Rattle.std.specs.Float.Ieee.{to_bits, fits};
-ghost use Rattle.refusal.specs.Answer.{answered, then};
+ghost use Rattle.refusal.specs.Answer.{answered, answered_by, then};
 ghost use Rattle.fractions.specs.Fractions.{parts_of, fraction_of};
 ghost use Rattle.fractions.specs.Promise.{from_zero};
 ghost use Rattle.crossing.specs.Answers.{one_number_of};
@@ -13,7 +13,7 @@ use crate::answers;
 use date::Date;
 use fractions::reports::Sums;
 use fractions::{Basis, Fraction, Parts};
-use refusal::Refusal;
+use refusal::{Refusal, Refuses};
 
 pub fn basis_of(n: u8) -> Result<Basis, Refusal>
     ensures { answered result ≡ basis_of n }
@@ -59,8 +59,11 @@ pub fn parts(basis: u8, start: u32, end: u32) -> Result<Parts, Refusal>
 }
 
 // Numbers over the start of a lent list.
-fn put_numbers<const N: usize>(numbers: Result<[u32; N], Refusal>, list: &mut [u32]) -> i64
-    ensures { Laid N (answered numbers.entry) result list.old list.new }
+fn put_numbers<E: Refuses + Drop, const N: usize>(
+    numbers: Result<[u32; N], E>,
+    list: &mut [u32],
+) -> i64
+    ensures { Laid N (answered_by E.numbered numbers) result list.old list.new }
 {
     if list.len() < N {
         return answers::refused(Refusal::Room);
@@ -75,29 +78,29 @@ fn put_numbers<const N: usize>(numbers: Result<[u32; N], Refusal>, list: &mut [u
 }
 
 #[tactic(auto, unfolding(crate::specs::Years::two_parts, refusal::specs::Answer::then))]
-fn two_parts(parts: Result<Parts, Refusal>) -> Result<[u32; 2], Refusal>
-    ensures { answered result ≡ then (answered parts) two_parts }
+fn two_parts<E: Refuses>(parts: Result<Parts, E>) -> Result<[u32; 2], E>
+    ensures { answered_by E.numbered result ≡ then (answered_by E.numbered parts) two_parts }
 {
     let parts = parts?;
     Ok([parts.numerator, parts.denominator])
 }
 
-pub fn put_parts(parts: Result<Parts, Refusal>, list: &mut [u32]) -> i64
-    ensures { Laid 2 (then (answered parts) two_parts) result list.old list.new }
+pub fn put_parts<E: Refuses + Drop>(parts: Result<Parts, E>, list: &mut [u32]) -> i64
+    ensures { Laid 2 (then (answered_by E.numbered parts) two_parts) result list.old list.new }
 {
     put_numbers(two_parts(parts), list)
 }
 
 #[tactic(auto, unfolding(crate::specs::Years::three_sums, refusal::specs::Answer::then))]
-fn three_sums(sums: Result<Sums, Refusal>) -> Result<[u32; 3], Refusal>
-    ensures { answered result ≡ then (answered sums) three_sums }
+fn three_sums<E: Refuses>(sums: Result<Sums, E>) -> Result<[u32; 3], E>
+    ensures { answered_by E.numbered result ≡ then (answered_by E.numbered sums) three_sums }
 {
     let sums = sums?;
     Ok([sums.actual360, sums.actual365, sums.thirty360])
 }
 
-pub fn put_report(sums: Result<Sums, Refusal>, list: &mut [u32]) -> i64
-    ensures { Laid 3 (then (answered sums) three_sums) result list.old list.new }
+pub fn put_report<E: Refuses + Drop>(sums: Result<Sums, E>, list: &mut [u32]) -> i64
+    ensures { Laid 3 (then (answered_by E.numbered sums) three_sums) result list.old list.new }
 {
     put_numbers(three_sums(sums), list)
 }

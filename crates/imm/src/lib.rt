@@ -18,11 +18,12 @@ pub mod days;
 pub fn is_imm_day(day: u32, main: bool) -> bool
     ensures { result ≡ is_imm_date main day }
 {
+    // The weekday first: it costs a tenth of the civil date, and six days of seven need no more.
+    if date::civil::weekday_of(day) != days::WEDNESDAY {
+        return false;
+    }
     let f = date::civil::fields_of(day);
-    date::civil::weekday_of(day) == days::WEDNESDAY
-        && 15 <= f.day
-        && f.day <= 21
-        && codes::in_cycle(main, f.month)
+    15 <= f.day && f.day <= 21 && codes::in_cycle(main, f.month)
 }
 
 // Whether the date is a Wednesday, day 15 to 21; for the main cycle also of month 3, 6, 9 or 12.

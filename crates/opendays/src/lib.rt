@@ -79,7 +79,7 @@ pub fn count(
 ) -> Result<u32, Refusal>
     ensures { answered result ≡ count_of mask closed.now index.now first last }
 {
-    check(mask, closed, index)?;
+    check(mask, closed, index)?; // before the first date, as document 01 has it
     let from = first.booked()?;
     let to = last.booked()?;
     let index = Index {
@@ -94,7 +94,7 @@ pub fn count(
 pub fn nth(date: Date, n: u32, mask: u8, closed: &[u32], index: &[u32]) -> Result<Date, Refusal>
     ensures { answered result ≡ nth_of mask closed.now index.now date n }
 {
-    check(mask, closed, index)?;
+    check(mask, closed, index)?; // before the date and the count of days
     let day = date.booked()?;
     if n < 1 || MOST_ASKED < n {
         return Err(Refusal::Tenor);

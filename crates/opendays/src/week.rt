@@ -28,10 +28,9 @@ fn count_few(mask: u8, from: u32, n: u32) -> u32
 {
     let mut count = 0;
     for i in 0..n {
-        if is_weekly_closed(mask, from + i) {
-            continue;
+        if !is_weekly_closed(mask, from + i) {
+            count += 1;
         }
-        count += 1;
     }
     count
 }

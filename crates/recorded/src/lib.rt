@@ -4,15 +4,14 @@
 
 ghost use Rattle.std.specs.Prelude.{◌≡◌, ◌≤◌, length};
 ghost use Rattle.steps.specs.Build.{over};
-ghost use Rattle.refusal.specs.Answer.{answered};
+ghost use Rattle.refusal.specs.Answer.{answered_by};
 ghost use Rattle.request.specs.Format.{decoded};
 ghost use Rattle.recorded.specs.Bytes.{request_in, closed_in};
 ghost use Rattle.recorded.specs.Builds.{record_numbers, count_in, Reported};
 
 use crossing::answers;
 use period::sign;
-use refusal::Refusal;
-use request::Decoded;
+use refusal::{Refusal, Refuses};
 use steps::{Built, Request, rules};
 
 fn put_record(b: Built, answer: &mut [u32])
@@ -49,16 +48,16 @@ fn report(b: Built, answer: &mut [u32]) -> i64
     count_in(b)
 }
 
-// Builds what was asked for, and puts the record of it into the start of `answer`.
-pub fn build(
-    request: Result<Request, Refusal>,
+// Builds what was asked for, where a refusal is any number, and puts the record of it into the start of `answer`.
+fn told(
+    request: Result<Request, u8>,
     closed: &[u32],
     dates: &mut [u32],
     flags: &mut [u8],
     unadjusted: &mut [u32],
     answer: &mut [u32],
 ) -> i64
-    ensures { Reported (answered request) closed.now result dates.old flags.old unadjusted.old answer.old dates.new flags.new unadjusted.new answer.new }
+    ensures { Reported (answered_by (λ n. n) request) closed.now result dates.old flags.old unadjusted.old answer.old dates.new flags.new unadjusted.new answer.new }
 {
     if answer.len() < 7 {
         return answers::refused(Refusal::Room);
@@ -68,8 +67,23 @@ pub fn build(
             let built = schedule::build(q, closed, dates, flags, unadjusted);
             report(built, answer)
         }
-        Err(refusal) => report(steps::refused(refusal.number()), answer),
+        Err(number) => report(steps::refused(number), answer),
     }
+}
+
+// Builds what was asked for, and puts the record of it into the start of `answer`.
+pub fn build<E: Refuses>(
+    request: Result<Request, E>,
+    closed: &[u32],
+    dates: &mut [u32],
+    flags: &mut [u8],
+    unadjusted: &mut [u32],
+    answer: &mut [u32],
+) -> i64
+    ensures { Reported (answered_by E.numbered request) closed.now result dates.old flags.old unadjusted.old answer.old dates.new flags.new unadjusted.new answer.new }
+{
+    let request = request.map_err(|refusal| refusal.number());
+    told(request, closed, dates, flags, unadjusted, answer)
 }
 
 // Builds what the bytes ask for; their closed dates are read into `closed`.
@@ -84,13 +98,25 @@ fn build_read(
     ensures { Reported (request_in (decoded bytes.now (length closed.old))) (closed_in (decoded bytes.now (length closed.old))) result dates.old flags.old unadjusted.old answer.old dates.new flags.new unadjusted.new answer.new }
 {
     match request::decode(bytes, closed) {
-        Ok(
-            Decoded {
-                request: q,
-                closed: n,
-            },
-        ) => build(Ok(q), &closed[0..n], dates, flags, unadjusted, answer),
-        Err(refusal) => build(Err(refusal), closed, dates, flags, unadjusted, answer),
+        Ok(read) => {
+            let count = read.closed;
+            told(
+                Ok(read.request),
+                &closed[0..count],
+                dates,
+                flags,
+                unadjusted,
+                answer,
+            )
+        }
+        Err(refusal) => told(
+            Err(refusal.number()),
+            closed,
+            dates,
+            flags,
+            unadjusted,
+            answer,
+        ),
     }
 }
 

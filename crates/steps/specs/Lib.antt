@@ -1,3 +1,4 @@
+pub mod Asked
 pub mod Rules
 pub mod Laws
 pub mod Table

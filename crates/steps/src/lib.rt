@@ -11,6 +11,7 @@ use calendar::Convention;
 use date::Date;
 use period::{Period, Unit};
 use refusal::Refusal;
+use std::marker::Model;
 
 // The groups of rules, and the rule and the tenor in force.
 pub mod rules;
@@ -80,6 +81,40 @@ pub struct Request {
     pub penultimate: Date,
     // The weekly closed days, Monday the lowest bit.
     pub mask: u8,
+}
+
+// Clauses see a request field by field, as record `Request` of specs, its dates as day numbers. The model is what lets a caller pass
+// one request again and again by value.
+impl Model for Request {
+    ghost use Rattle.steps.specs.Asked.{Request as Asked};
+
+    ghost Value = { Asked };
+
+    ghost view = { λ q. record {
+      effective = q.effective;
+      termination = q.termination;
+      tenor = q.tenor;
+      rule = q.rule;
+      convention = q.convention;
+      terminal = q.terminal;
+      monthend = q.monthend;
+      first = q.first;
+      penultimate = q.penultimate;
+      mask = q.mask;
+    } };
+
+    ghost inverse = { λ q. record {
+      effective = q.effective;
+      termination = q.termination;
+      tenor = q.tenor;
+      rule = q.rule;
+      convention = q.convention;
+      terminal = q.terminal;
+      monthend = q.monthend;
+      first = q.first;
+      penultimate = q.penultimate;
+      mask = q.mask;
+    } };
 }
 
 // A tenor as a count of days or of months. Not an enum: definition `candidate` and laws of walks name both fields.

@@ -4,8 +4,5 @@ use Rattle.opendays.proofs.week.count_few.Goals as goal
 pub loop-i-init : goal.loop-i-init
 loop-i-init c = search few
 
-pub loop-i-preserved-then-is_weekly_closed : goal.loop-i-preserved-then-is_weekly_closed
-loop-i-preserved-then-is_weekly_closed c = search few
-
 pub loop-i-preserved : goal.loop-i-preserved
 loop-i-preserved c = search few
