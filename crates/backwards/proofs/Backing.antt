@@ -45,7 +45,7 @@ flagged room day f flag l e g = rw (← e) g
 pub ruleset penultimate = (penultimate_absent, penultimate_full, penultimate_on, flagged, dates, fills, rules)
 
 -- ---- what the steps were called with is what the definition says
-pub begun_is : (q : Request) (room : ℕ) (pace : Pace) → pace ≡ pace_of q.tenor → then (put room q.termination 1 nothing) (put_penultimate pace (seed_of q.monthend q.termination) room q.penultimate) ≡ begun q room
+pub begun_is : (q : Request) (room : ℕ) (pace : Pace) → pace ≡ pace_of q.tenor → then (put room q.termination.day 1 nothing) (put_penultimate pace (seed_of q.monthend q.termination.day) room q.penultimate.day) ≡ begun q room
 unfolding begun
 begun_is q room pace a = rw a refl
 

@@ -7,14 +7,15 @@ use mathlib.Core.List.{List}
 use lib.IntN.{ℤ, pos, nat_abs, sub_ℕ}
 use mir.Syntax.{w32}
 use mir.Val.{to_z, of_z}
-use Rattle.refusal.specs.Answer.{Answer, given, refused, answered, need, then, TENOR}
+use Rattle.refusal.specs.Answer.{Answer, given, refused, need, then, TENOR}
 use Rattle.period.specs.Period.{is_negative}
 use Rattle.period.specs.declared.Unit.{Unit}
 use Rattle.std.specs.Prelude.{Result, Ok, Err}
 use Rattle.refusal.specs.declared.Refusal.{Refusal}
 use Rattle.refusal.specs.Refusals.{number_of}
 use Rattle.period.specs.declared.Unit.TheVariants.{Days}
-use Rattle.date.specs.Date.{SPAN_LAST, within_span, shifted}
+use Rattle.date.specs.declared.Date.{Date}
+use Rattle.date.specs.Date.{dated, SPAN_LAST, within_span, shifted}
 use Rattle.date.specs.Laws.Moves.{diff_back}
 use Rattle.date.specs.Laws.Made.{given_day, refused_day}
 use Rattle.calendar.specs.declared.Convention.{Convention}
@@ -48,8 +49,8 @@ pub moved_same : {A : Type 0} (x y : Answer A) (f g : A → Answer ℕ) (r : Ans
 moved_same {A} x y f g r h e = h ∙ ap (λ (a : Answer A). moved_from (then a f) (then a g)) e
 
 -- ---- a date from the day that a call gave, or nothing where it refused
-module _ (start : Result ℕ Refusal) (a : Answer ℕ) (look : ℕ → Answer ℕ) (h : answered start ≡ a) where
-  pub from_there : (x : ℕ) (r : Answer (ℕ × ℤ)) → start ≡ Ok x → r ≡ moved_from (given x) (look x) → r ≡ moved_from a (then a look)
+module _ (start : Result Date Refusal) (a : Answer ℕ) (look : ℕ → Answer ℕ) (h : dated start ≡ a) where
+  pub from_there : (x : Date) (r : Answer (ℕ × ℤ)) → start ≡ Ok x → r ≡ moved_from (given x.day) (look x.day) → r ≡ moved_from a (then a look)
   unfolding then
   from_there x r e q = let g = given_day start x a h e in rw g q
 
@@ -57,11 +58,11 @@ module _ (start : Result ℕ Refusal) (a : Answer ℕ) (look : ℕ → Answer �
   from_nowhere n base e = unmoved_then a (number_of n) base look (refused_day start n a h e)
 
 -- ---- open days: the day that the steps led to, from the sum with as many natural days
-module _ (opens : ℕ → Bool) (back : Bool) (size day : ℕ) (s : in_span day ≡ true) (sum : Result ℕ Refusal) (h : answered sum ≡ shifted day back size Days) (new : ℕ) (f : open_steps opens back size day ≡ given new) where
-  pub led : (x : ℕ) (r : Answer (ℕ × ℤ)) → sum ≡ Ok x → (UpTo x (given new) → r ≡ moved_from (given x) (given new)) → r ≡ moved_from (shifted day back size Days) (open_steps opens back size day)
+module _ (opens : ℕ → Bool) (back : Bool) (size day : ℕ) (s : in_span day ≡ true) (sum : Result Date Refusal) (h : dated sum ≡ shifted day back size Days) (new : ℕ) (f : open_steps opens back size day ≡ given new) where
+  pub led : (x : Date) (r : Answer (ℕ × ℤ)) → sum ≡ Ok x → (UpTo x.day (given new) → r ≡ moved_from (given x.day) (given new)) → r ≡ moved_from (shifted day back size Days) (open_steps opens back size day)
   led x r e k =
       let g = given_day sum x _ h e in
-      rw (g, f) (k (steps_up_to opens back size day x (given new) s (sym f) g))
+      rw (g, f) (k (steps_up_to opens back size day x.day (given new) s (sym f) g))
 
   pub led_nowhere : (n : Refusal) → sum ≡ Err n → refused (number_of n) ≡ moved_from (shifted day back size Days) (open_steps opens back size day)
   unfolding moved_from then

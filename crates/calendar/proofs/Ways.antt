@@ -8,13 +8,14 @@ use native.Mathlib.Omega.{arith}
 use lib.ListN.{length, get_or}
 use lib.Dec.{eqb, leb}
 use borrow.Author.Tests.{leb-true, eqb-true, eqb-false, eq-eqb, ne_eqb, not-true, not-false}
-use Rattle.refusal.specs.Answer.{Answer, given, refused, answered, then, BOOK}
+use Rattle.refusal.specs.Answer.{Answer, given, refused, then, BOOK}
 use Rattle.refusal.specs.Laws.Answers.{need_given, then_given, then_refused, both}
 use Rattle.std.specs.Prelude.{Result, Ok, Err}
 use Rattle.refusal.specs.declared.Refusal.{Refusal}
 use Rattle.refusal.specs.Refusals.{number_of}
 use Rattle.date.specs.Civil.{fields_of}
-use Rattle.date.specs.Date.{step, within_span}
+use Rattle.date.specs.declared.Date.{Date}
+use Rattle.date.specs.Date.{dated, step, within_span}
 use Rattle.date.specs.Laws.Made.{given_day, refused_day}
 use Rattle.calendar.specs.declared.Convention.{Convention}
 use Rattle.calendar.specs.declared.Convention.TheVariants.{Following, ModifiedFollowing, Preceding}
@@ -66,54 +67,54 @@ not_before : (mask : ℕ) (closed : List ℕ) (day new : ℕ) → adjusted mask 
 unfolding towards step
 not_before mask closed day new h = let f = adjusted_first (is_open_day mask closed) false day new h in omega (arith, f.there)
 
-module _ (mask : ℕ) (closed : List ℕ) (day : ℕ) (first : Result ℕ Refusal) (h : answered first ≡ adjusted mask closed Following day) where
+module _ (mask : ℕ) (closed : List ℕ) (day : ℕ) (first : Result Date Refusal) (h : dated first ≡ adjusted mask closed Following day) where
   pub follow_refused : (n : Refusal) → first ≡ Err n → Adjusts mask closed ModifiedFollowing day (Err n)
   unfolding placed Known then any.adjusted any.by_convention
   follow_refused n q = record { says = modified_refused (is_open_day mask closed) false day first h n q; known = tt }
 
-  module _ (x : ℕ) (q : first ≡ Ok x) where
-    on : adjusted mask closed Following day ≡ given x
+  module _ (x : Date) (q : first ≡ Ok x) where
+    on : adjusted mask closed Following day ≡ given x.day
     on = given_day first x _ h q
 
     first_one : 1 ≤ day
     unfolding any.adjusted
-    first_one = span_one day (need_given BOOK (in_span day) _ x on).0
+    first_one = span_one day (need_given BOOK (in_span day) _ x.day on).0
 
-    stays_in : same_month day x ≡ true → given x ≡ adjusted mask closed ModifiedFollowing day
+    stays_in : same_month day x.day ≡ true → given x.day ≡ adjusted mask closed ModifiedFollowing day
     unfolding any.adjusted any.by_convention
-    stays_in e = modified_kept (is_open_day mask closed) false day first h x (same_month day x) q (λ a b. refl) e
+    stays_in e = modified_kept (is_open_day mask closed) false day first h x (same_month day x.day) q (λ a b. refl) e
 
-    pub follow_known : (near : Near) → OneMonth near.from near.to → (r : Bool) → r ≡ (leb near.from day && leb x near.to) → r ≡ true → Adjusts mask closed ModifiedFollowing day (Ok (record { day = x; near = near }))
+    pub follow_known : (near : Near) → OneMonth near.from near.to → (r : Bool) → r ≡ (leb near.from day && leb x.day near.to) → r ≡ true → Adjusts mask closed ModifiedFollowing day (Ok (record { day = x.day; near = near }))
     unfolding placed Known then
     follow_known near m r p e =
-        let t = both (leb near.from day) (leb x near.to) (sym p ∙ e) in
+        let t = both (leb near.from day) (leb x.day near.to) (sym p ∙ e) in
         record {
-          says = stays_in (m.alike day x (leb-true near.from day t.0) (not_before mask closed day x on) (leb-true x near.to t.1));
+          says = stays_in (m.alike day x.day (leb-true near.from day t.0) (not_before mask closed day x.day on) (leb-true x.day near.to t.1));
           known = m;
         }
 
-    module _ (s : ℕ) (p : 1 ≤ x → s ≡ x + 1 - (fields_of x).day) where
-      one : 1 ≤ x
-      one = following_one (is_open_day mask closed) day x on
+    module _ (s : ℕ) (p : 1 ≤ x.day → s ≡ x.day + 1 - (fields_of x.day).day) where
+      one : 1 ≤ x.day
+      one = following_one (is_open_day mask closed) day x.day on
 
-      pub follow_split : (place : ℕ) → s ≤ day → Adjusts mask closed ModifiedFollowing day (Ok (record { day = x; near = record { place = place; from = s; to = x } }))
+      pub follow_split : (place : ℕ) → s ≤ day → Adjusts mask closed ModifiedFollowing day (Ok (record { day = x.day; near = record { place = place; from = s; to = x.day } }))
       unfolding placed Known then
       follow_split place l =
-          let m = start_known x s one (p one) in
-          record { says = stays_in (m.alike day x l (not_before mask closed day x on) (omega arith)); known = m }
+          let m = start_known x.day s one (p one) in
+          record { says = stays_in (m.alike day x.day l (not_before mask closed day x.day on) (omega arith)); known = m }
 
-      pub follow_left : (from to : ℕ) → OneMonth from to → day < s → (other : Result ℕ Refusal) → answered other ≡ adjusted mask closed Preceding day → (r : Result Placed Refusal) → (placed r ≡ answered other) × (OneMonth from to → Known r) → Adjusts mask closed ModifiedFollowing day r
+      pub follow_left : (from to : ℕ) → OneMonth from to → day < s → (other : Result Date Refusal) → dated other ≡ adjusted mask closed Preceding day → (r : Result Placed Refusal) → (placed r ≡ dated other) × (OneMonth from to → Known r) → Adjusts mask closed ModifiedFollowing day r
       unfolding any.adjusted any.by_convention
       follow_left from to m l other z r w =
           record {
-            says = modified_left (is_open_day mask closed) false day first h x (same_month day x) (placed r) q (λ a b. refl) (start_left x s one (p one) day first_one l) (w.0 ∙ z);
+            says = modified_left (is_open_day mask closed) false day first h x (same_month day x.day) (placed r) q (λ a b. refl) (start_left x.day s one (p one) day first_one l) (w.0 ∙ z);
             known = w.1 m;
           }
 
 -- ---- the neighbouring day
-module _ (mask : ℕ) (closed : List ℕ) (convention : Convention) (n : ℕ) (beside : Result ℕ Refusal) (h : answered beside ≡ within_span n) where
-  pub beside_day : (x : ℕ) (r : Answer ℕ) → beside ≡ Ok x → r ≡ adjusted mask closed convention x → r ≡ adjusted mask closed convention n
-  beside_day x r q w = w ∙ ap (adjusted mask closed convention) (within_given n x (given_day beside x _ h q))
+module _ (mask : ℕ) (closed : List ℕ) (convention : Convention) (n : ℕ) (beside : Result Date Refusal) (h : dated beside ≡ within_span n) where
+  pub beside_day : (x : Date) (r : Answer ℕ) → beside ≡ Ok x → r ≡ adjusted mask closed convention x.day → r ≡ adjusted mask closed convention n
+  beside_day x r q w = w ∙ ap (adjusted mask closed convention) (within_given n x.day (given_day beside x _ h q))
 
   pub beside_refused : (k : Refusal) → beside ≡ Err k → refused (number_of k) ≡ adjusted mask closed convention n
   unfolding any.adjusted
@@ -134,10 +135,10 @@ module _ {mask : ℕ} {closed : List ℕ} {back : Bool} {size day left at : ℕ}
       back_one : (k : ℕ) → 0 < k → k ≡ suc (k - 1)
       back_one k l = omega arith
 
-  module _ (h : 0 < left) {next : Result ℕ Refusal} (e : closed_ok closed ≡ true → answered next ≡ adjusted mask closed (towards back) (step back at 1)) where
-    pub steps_next : {x : ℕ} → next ≡ Ok x → Steps mask closed back size day (left - 1) x
+  module _ (h : 0 < left) {next : Result Date Refusal} (e : closed_ok closed ≡ true → dated next ≡ adjusted mask closed (towards back) (step back at 1)) where
+    pub steps_next : {x : Date} → next ≡ Ok x → Steps mask closed back size day (left - 1) x.day
     steps_next {x} q =
-        record { same = λ ok. then_given _ x _ _ (given_day next x _ (e ok) q) refl ∙ sym (turn h) ∙ g.same ok }
+        record { same = λ ok. then_given _ x.day _ _ (given_day next x _ (e ok) q) refl ∙ sym (turn h) ∙ g.same ok }
 
     pub steps_refused : (n : Refusal) → next ≡ Err n → closed_ok closed ≡ true → refused (number_of n) ≡ open_steps mask closed back size day
     steps_refused n q ok = then_refused _ (number_of n) _ (refused_day next n _ (e ok) q) ∙ sym (turn h) ∙ g.same ok

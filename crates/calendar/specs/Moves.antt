@@ -1,16 +1,27 @@
 -- Change request L8: how far a date moved. An adjustment, a month end and an advance answer a date and the days from a base to it, later being
 -- positive. The dates are those of `Adjust` and `Calendar`.
 -- Assumes nothing.
-use Rattle.std.specs.Prelude.{ℕ, Bool, true, false, List, ℤ, nat_abs}
+use Rattle.std.specs.Prelude.{ℕ, Bool, true, false, List, ℤ, nat_abs, Result, Ok, Err}
 use Rattle.std.proofs.Math.IntN.{sub_ℕ}
 use Rattle.refusal.specs.Answer.{Answer, given, refused, then}
+use Rattle.refusal.specs.declared.Refusal.{Refusal}
+use Rattle.refusal.specs.Refusals.{number_of}
 use Rattle.period.specs.Period.{is_negative}
 use Rattle.period.specs.declared.Unit.{Unit}
 use Rattle.period.specs.declared.Unit.TheVariants.{Days, Weeks, Months, Years}
 use Rattle.date.specs.Date.{last_of_month, shifted}
 use Rattle.calendar.specs.declared.Convention.{Convention}
+use Rattle.calendar.specs.declared.Moved.{Moved}
 use Rattle.calendar.specs.Adjust.{end_asked}
 use Rattle.calendar.specs.Calendar.{adjust_of, last_open_of, advanced_of}
+
+-- what the code's result says where its value is a move: the day number and the days, or the number of the refusal
+abbrev pub moved_by : {E : Type 0} → (E → ℕ) → Result Moved E → Answer (ℕ × ℤ)
+moved_by number (Ok m) = given (m.date.day, m.days)
+moved_by number (Err e) = refused (number e)
+
+abbrev pub moved : Result Moved Refusal → Answer (ℕ × ℤ)
+moved r = moved_by number_of r
 
 -- a date, and how many days after the base it lies
 unfoldable pub moved_from : (base date : Answer ℕ) → Answer (ℕ × ℤ)

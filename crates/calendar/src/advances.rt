@@ -2,10 +2,10 @@
 ghost use Rattle.std.specs.Prelude.{◌≡◌, true};
 ghost use Rattle.refusal.specs.Answer.{answered, then};
 ghost use Rattle.period.specs.declared.Unit.TheVariants.{Days, Weeks};
-ghost use Rattle.date.specs.Date.{shifted};
+ghost use Rattle.date.specs.Date.{dated, shifted};
 ghost use Rattle.calendar.specs.Open.{closed_ok};
 ghost use Rattle.calendar.specs.Adjust.{in_span, open_steps, end_asked, landed, add_weeks, add_months, advanced};
-ghost use Rattle.calendar.specs.Moves.{moved_from, land_base, months_base, advance_base};
+ghost use Rattle.calendar.specs.Moves.{moved, moved_from, land_base, months_base, advance_base};
 
 use crate::{Convention, Moved, month_ends, moves, scan, search};
 use date::{Date, span};
@@ -14,7 +14,7 @@ use refusal::Refusal;
 
 // So many open days on, or back, each found from the neighbouring day.
 fn step_open(day: u32, back: bool, size: u32, mask: u8, closed: &[u32]) -> Result<Date, Refusal>
-    ensures { closed_ok closed.now ≡ true → answered result ≡ open_steps mask closed.now back size day }
+    ensures { closed_ok closed.now ≡ true → dated result ≡ open_steps mask closed.now back size day }
 {
     let mut at = day;
     for _ in 0..size {
@@ -26,7 +26,7 @@ fn step_open(day: u32, back: bool, size: u32, mask: u8, closed: &[u32]) -> Resul
 // The days are those from so many natural days on, or back: all the steps' moves together.
 #[tactic(auto, unfolding(crate::specs::Moves::moved_from, refusal::specs::Answer::then))]
 fn step_days(day: u32, back: bool, size: u32, mask: u8, closed: &[u32]) -> Result<Moved, Refusal>
-    ensures { closed_ok closed.now ≡ true → in_span day ≡ true → answered result ≡ moved_from (shifted day back size Days) (open_steps mask closed.now back size day) }
+    ensures { closed_ok closed.now ≡ true → in_span day ≡ true → moved result ≡ moved_from (shifted day back size Days) (open_steps mask closed.now back size day) }
 {
     let date = step_open(day, back, size, mask, closed)?;
     let base = span::shift_by(day, back, size, Unit::Days)?;
@@ -52,7 +52,7 @@ fn add_weeks(
     mask: u8,
     closed: &[u32],
 ) -> Result<Moved, Refusal>
-    ensures { closed_ok closed.now ≡ true → answered result ≡ moved_from (shifted day back size Weeks) (add_weeks mask closed.now back size convention day) }
+    ensures { closed_ok closed.now ≡ true → moved result ≡ moved_from (shifted day back size Weeks) (add_weeks mask closed.now back size convention day) }
 {
     let sum = span::shift_by(day, back, size, Unit::Weeks)?;
     search::adjust(sum.day, convention, mask, closed)
@@ -66,7 +66,7 @@ fn land(
     mask: u8,
     closed: &[u32],
 ) -> Result<Moved, Refusal>
-    ensures { closed_ok closed.now ≡ true → answered result ≡ moved_from (then (answered end) (land_base sum)) (then (answered end) (landed mask closed.now convention sum)) }
+    ensures { closed_ok closed.now ≡ true → moved result ≡ moved_from (then (answered end) (land_base sum)) (then (answered end) (landed mask closed.now convention sum)) }
 {
     if end? {
         month_ends::last_open(sum, mask, closed)
@@ -87,7 +87,7 @@ fn add_months(
     mask: u8,
     closed: &[u32],
 ) -> Result<Moved, Refusal>
-    ensures { closed_ok closed.now ≡ true → answered result ≡ moved_from (months_base mask closed.now back size unit monthend day) (add_months mask closed.now back size unit convention monthend day) }
+    ensures { closed_ok closed.now ≡ true → moved result ≡ moved_from (months_base mask closed.now back size unit monthend day) (add_months mask closed.now back size unit convention monthend day) }
 {
     let sum = span::shift_by(day, back, size, unit)?.day;
     let end = end_asked(day, monthend, mask, closed);
@@ -105,7 +105,7 @@ pub fn advance(
     mask: u8,
     closed: &[u32],
 ) -> Result<Moved, Refusal>
-    ensures { closed_ok closed.now ≡ true → answered result ≡ moved_from (advance_base mask closed.now back size unit monthend day) (advanced mask closed.now back size unit convention monthend day) }
+    ensures { closed_ok closed.now ≡ true → moved result ≡ moved_from (advance_base mask closed.now back size unit monthend day) (advanced mask closed.now back size unit convention monthend day) }
 {
     if !scan::in_span(day) {
         return Err(Refusal::Book);

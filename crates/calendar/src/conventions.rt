@@ -1,9 +1,10 @@
 // The five conventions, from a day's place in the list of closed dates.
 ghost use Rattle.std.specs.Prelude.{◌≡◌, true};
-ghost use Rattle.refusal.specs.Answer.{answered, need, BOOK};
+ghost use Rattle.refusal.specs.Answer.{need, BOOK};
 ghost use Rattle.calendar.specs.Open.{closed_ok};
 ghost use Rattle.calendar.specs.Inner.Places.{LowerBound};
 ghost use Rattle.calendar.specs.Adjust.{in_span, modified, adjusted};
+ghost use Rattle.date.specs.Date.{dated};
 
 use crate::{Convention, months, scan};
 use date::{Date, span};
@@ -12,7 +13,7 @@ use refusal::Refusal;
 // The day found, or that of the search the other way where the first one left the month.
 fn modified(place: usize, day: u32, back: bool, mask: u8, closed: &[u32]) -> Result<Date, Refusal>
     requires { LowerBound closed.now day place }
-    ensures { closed_ok closed.now ≡ true → answered result ≡ need BOOK (in_span day) (modified mask closed.now back day) }
+    ensures { closed_ok closed.now ≡ true → dated result ≡ need BOOK (in_span day) (modified mask closed.now back day) }
 {
     let found = scan::look(place, day, back, mask, closed)?;
     if months::same_month(day, found.day) {
@@ -30,7 +31,7 @@ pub(crate) fn search_from(
     closed: &[u32],
 ) -> Result<Date, Refusal>
     requires { LowerBound closed.now day place }
-    ensures { closed_ok closed.now ≡ true → answered result ≡ adjusted mask closed.now convention day }
+    ensures { closed_ok closed.now ≡ true → dated result ≡ adjusted mask closed.now convention day }
 {
     match convention {
         Convention::Unadjusted => span::within(day as u64),

@@ -5,12 +5,11 @@ ghost use Rattle.std.specs.Prelude.{◌≡◌, true, IfOk};
 ghost use Rattle.refusal.specs.Answer.{answered};
 ghost use Rattle.calendar.specs.Open.{calendar_ok, closed_ok};
 ghost use Rattle.calendar.specs.Calendar.{check_of, is_open_of, is_month_end_of, tenor_ok};
-ghost use Rattle.calendar.specs.Moves.{adjust_move_of, last_open_move_of, advance_move_of};
+ghost use Rattle.calendar.specs.Moves.{moved, adjust_move_of, last_open_move_of, advance_move_of};
 
 use date::Date;
 use period::{Period, Unit, sign};
 use refusal::Refusal;
-use std::marker::Model;
 
 // The leaves: the list of closed dates, with its rule and the place of a day in it; the weekly mask; months.
 pub mod closed_dates;
@@ -41,16 +40,6 @@ pub enum Convention {
 pub struct Moved {
     pub date: Date,
     pub days: i32,
-}
-
-impl Model for Moved {
-    ghost use Rattle.std.specs.Prelude.{ℕ, ℤ};
-
-    ghost Value = { ℕ × ℤ };
-
-    ghost view = { λ m. (m.date, m.days) };
-
-    ghost inverse = { λ p. record { date = p.0; days = p.1 } };
 }
 
 #[tactic(auto, using(crate::proofs::Ways::open_mask, crate::proofs::Ways::shut_mask))]
@@ -90,7 +79,7 @@ pub fn check(mask: u8, closed: &[u32]) -> Result<(), Refusal>
 
 #[tactic(auto, unfolding(crate::specs::Calendar::is_open_of, crate::specs::Calendar::check_of, refusal::specs::Answer::need))]
 pub fn is_open(date: Date, mask: u8, closed: &[u32]) -> Result<bool, Refusal>
-    ensures { answered result ≡ is_open_of mask closed.now date }
+    ensures { answered result ≡ is_open_of mask closed.now date.day }
 {
     let day = date.booked()?;
     check(mask, closed)?;
@@ -104,7 +93,7 @@ pub fn adjust(
     mask: u8,
     closed: &[u32],
 ) -> Result<Moved, Refusal>
-    ensures { answered result ≡ adjust_move_of mask closed.now convention date }
+    ensures { moved result ≡ adjust_move_of mask closed.now convention date.day }
 {
     let day = date.booked()?;
     check(mask, closed)?;
@@ -114,7 +103,7 @@ pub fn adjust(
 // The last open day of the date's month, and the days from the month's last day to it.
 #[tactic(auto, unfolding(crate::specs::Moves::last_open_move_of, crate::specs::Moves::moved_from, crate::specs::Calendar::last_open_of, crate::specs::Calendar::check_of, refusal::specs::Answer::need, refusal::specs::Answer::then))]
 pub fn month_end(date: Date, mask: u8, closed: &[u32]) -> Result<Moved, Refusal>
-    ensures { answered result ≡ last_open_move_of mask closed.now date }
+    ensures { moved result ≡ last_open_move_of mask closed.now date.day }
 {
     let day = date.booked()?;
     check(mask, closed)?;
@@ -124,7 +113,7 @@ pub fn month_end(date: Date, mask: u8, closed: &[u32]) -> Result<Moved, Refusal>
 // Whether the date is the last open day of its month, or after it. The empty date is not.
 #[tactic(auto, unfolding(crate::specs::Calendar::is_month_end_of, crate::specs::Calendar::unless_empty, crate::specs::Calendar::check_of, refusal::specs::Answer::need))]
 pub fn is_month_end(date: Date, mask: u8, closed: &[u32]) -> Result<bool, Refusal>
-    ensures { answered result ≡ is_month_end_of mask closed.now date }
+    ensures { answered result ≡ is_month_end_of mask closed.now date.day }
 {
     if date.day == 0 {
         check(mask, closed)?;
@@ -146,7 +135,7 @@ pub fn advance(
     mask: u8,
     closed: &[u32],
 ) -> Result<Moved, Refusal>
-    ensures { answered result ≡ advance_move_of mask closed.now tenor.length tenor.unit convention monthend date }
+    ensures { moved result ≡ advance_move_of mask closed.now tenor.length tenor.unit convention monthend date.day }
 {
     let day = date.booked()?;
     check(mask, closed)?;

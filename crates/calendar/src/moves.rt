@@ -1,9 +1,9 @@
 // How far a date moved: what an adjustment answers, made from the date that a search found.
 ghost use Rattle.std.specs.Prelude.{◌≡◌, ◌≤◌};
 ghost use Rattle.std.proofs.Math.IntN.{sub_ℕ};
-ghost use Rattle.refusal.specs.Answer.{answered, answered_by, given};
-ghost use Rattle.date.specs.Date.{SPAN_LAST, within_span};
-ghost use Rattle.calendar.specs.Moves.{moved_from, date_of};
+ghost use Rattle.refusal.specs.Answer.{given};
+ghost use Rattle.date.specs.Date.{dated_by, SPAN_LAST, within_span};
+ghost use Rattle.calendar.specs.Moves.{moved, moved_by, moved_from, date_of};
 ghost use Rattle.calendar.specs.Inner.Reach.{UpTo};
 
 use crate::Moved;
@@ -26,7 +26,7 @@ fn days_from(base: u32, day: u32) -> i32
 // A date that does not move.
 #[tactic(auto, unfolding(crate::specs::Moves::moved_from, refusal::specs::Answer::then))]
 pub(crate) fn stay(day: u32) -> Result<Moved, Refusal>
-    ensures { answered result ≡ moved_from (given day) (within_span day) }
+    ensures { moved result ≡ moved_from (given day) (within_span day) }
 {
     let date = span::within(day as u64)?;
     Ok(Moved { date, days: 0 })
@@ -35,7 +35,7 @@ pub(crate) fn stay(day: u32) -> Result<Moved, Refusal>
 // The date that a search found, from the day that it started at.
 #[tactic(auto, unfolding(crate::specs::Moves::moved_from, refusal::specs::Answer::then))]
 pub fn to<E: Refuses>(base: u32, found: Result<Date, E>) -> Result<Moved, E>
-    ensures { UpTo base (answered_by E.numbered found) → answered_by E.numbered result ≡ moved_from (given base) (answered_by E.numbered found) }
+    ensures { UpTo base (dated_by E.numbered found) → moved_by E.numbered result ≡ moved_from (given base) (dated_by E.numbered found) }
 {
     let date = found?;
     Ok(Moved {
@@ -47,7 +47,7 @@ pub fn to<E: Refuses>(base: u32, found: Result<Date, E>) -> Result<Moved, E>
 // The date alone.
 #[tactic(auto, unfolding(crate::specs::Moves::date_of))]
 pub fn date_of<E: Refuses>(m: Result<Moved, E>) -> Result<Date, E>
-    ensures { answered_by E.numbered result ≡ date_of (answered_by E.numbered m) }
+    ensures { dated_by E.numbered result ≡ date_of (moved_by E.numbered m) }
 {
     Ok(m?.date)
 }

@@ -1,8 +1,7 @@
 // Open days by the mask and the list of closed dates: a single day, and the first of thirty-one either way. It costs the logarithm of the
 // list and at most thirty-one steps. A day's place is the first in the list whose date is at least the day, or the length.
 ghost use Rattle.std.specs.Prelude.{◌≡◌, true, false, ◌≤◌};
-ghost use Rattle.refusal.specs.Answer.{answered};
-ghost use Rattle.date.specs.Date.{SPAN_FIRST, SPAN_LAST};
+ghost use Rattle.date.specs.Date.{dated, SPAN_FIRST, SPAN_LAST};
 ghost use Rattle.calendar.specs.Open.{is_open_day, closed_ok};
 ghost use Rattle.calendar.specs.Inner.Places.{LowerBound};
 ghost use Rattle.calendar.specs.Adjust.{in_span, first_open, towards, adjusted};
@@ -46,7 +45,7 @@ pub(crate) fn is_open(day: u32, mask: u8, closed: &[u32]) -> bool
 
 fn ahead(place: usize, day: u32, tries: u32, mask: u8, closed: &[u32]) -> Result<Date, Refusal>
     requires { (SPAN_FIRST ≤ day) × (day ≤ SPAN_LAST) × (tries ≤ 31) × LowerBound closed.now day place }
-    ensures { closed_ok closed.now ≡ true → answered result ≡ first_open mask closed.now false tries day }
+    ensures { closed_ok closed.now ≡ true → dated result ≡ first_open mask closed.now false tries day }
 {
     let mut at = place;
     let mut d = day;
@@ -84,7 +83,7 @@ fn ahead(place: usize, day: u32, tries: u32, mask: u8, closed: &[u32]) -> Result
 
 fn behind(place: usize, day: u32, tries: u32, mask: u8, closed: &[u32]) -> Result<Date, Refusal>
     requires { (SPAN_FIRST ≤ day) × (day ≤ SPAN_LAST) × (tries ≤ 31) × LowerBound closed.now day place }
-    ensures { closed_ok closed.now ≡ true → answered result ≡ first_open mask closed.now true tries day }
+    ensures { closed_ok closed.now ≡ true → dated result ≡ first_open mask closed.now true tries day }
 {
     let mut at = closed_dates::place_after(closed, day, place);
     let mut d = day;
@@ -129,7 +128,7 @@ fn first_from(
     closed: &[u32],
 ) -> Result<Date, Refusal>
     requires { (SPAN_FIRST ≤ day) × (day ≤ SPAN_LAST) × (tries ≤ 31) × LowerBound closed.now day place }
-    ensures { closed_ok closed.now ≡ true → answered result ≡ first_open mask closed.now back tries day }
+    ensures { closed_ok closed.now ≡ true → dated result ≡ first_open mask closed.now back tries day }
 {
     if back {
         behind(place, day, tries, mask, closed)
@@ -146,7 +145,7 @@ pub fn first_open(
     mask: u8,
     closed: &[u32],
 ) -> Result<Date, Refusal>
-    ensures { closed_ok closed.now ≡ true → in_span day ≡ true → tries ≤ 31 → answered result ≡ first_open mask closed.now back tries day }
+    ensures { closed_ok closed.now ≡ true → in_span day ≡ true → tries ≤ 31 → dated result ≡ first_open mask closed.now back tries day }
 {
     if !in_span(day) {
         return Err(Refusal::Book);
@@ -168,7 +167,7 @@ pub(crate) fn look(
     closed: &[u32],
 ) -> Result<Date, Refusal>
     requires { LowerBound closed.now day place }
-    ensures { closed_ok closed.now ≡ true → answered result ≡ adjusted mask closed.now (towards back) day }
+    ensures { closed_ok closed.now ≡ true → dated result ≡ adjusted mask closed.now (towards back) day }
 {
     if !in_span(day) {
         return Err(Refusal::Book);

@@ -1,14 +1,15 @@
 // Adjusted days from 1800-01-01 to 2399-12-31, for the crates above: on a list of closed dates that the caller has checked. One day by itself, or
 // one day after another, each with what the day before it told.
 ghost use Rattle.std.specs.Prelude.{◌≡◌, true, ◌&&◌, leb};
-ghost use Rattle.refusal.specs.Answer.{answered, given};
+ghost use Rattle.refusal.specs.Answer.{given};
 ghost use Rattle.calendar.specs.Inner.Always.{convention_on};
 ghost use Rattle.calendar.specs.declared.Convention.TheVariants.{ModifiedFollowing};
 ghost use Rattle.calendar.specs.Open.{closed_ok};
 ghost use Rattle.calendar.specs.Inner.Places.{LowerBound};
 ghost use Rattle.calendar.specs.Adjust.{adjusted};
-ghost use Rattle.calendar.specs.Moves.{moved_from};
+ghost use Rattle.calendar.specs.Moves.{moved, moved_from};
 ghost use Rattle.calendar.specs.Inner.Near.{placed, OneMonth, Known, Adjusts, Measured, Tells};
+ghost use Rattle.date.specs.Date.{dated};
 
 use crate::{Convention, Moved, closed_dates, conventions, months, moves, scan};
 use date::Date;
@@ -55,7 +56,7 @@ fn is_known(near: Near, earlier: u32, later: u32) -> bool
 
 #[tactic(auto, unfolding(crate::specs::Inner::Near::placed, crate::specs::Inner::Near::Known, refusal::specs::Answer::then))]
 fn with_near(found: Result<Date, Refusal>, near: Near) -> Result<Placed, Refusal>
-    ensures { (placed result ≡ answered found) × (OneMonth near.from near.to → Known result) }
+    ensures { (placed result ≡ dated found) × (OneMonth near.from near.to → Known result) }
 {
     let date = found?;
     Ok(Placed {
@@ -66,7 +67,7 @@ fn with_near(found: Result<Date, Refusal>, near: Near) -> Result<Placed, Refusal
 
 // The adjustment. An open day is its own adjusted date, so only a closed one is searched from.
 pub fn adjust(day: u32, convention: Convention, mask: u8, closed: &[u32]) -> Result<Moved, Refusal>
-    ensures { closed_ok closed.now ≡ true → answered result ≡ moved_from (given day) (adjusted mask closed.now convention day) }
+    ensures { closed_ok closed.now ≡ true → moved result ≡ moved_from (given day) (adjusted mask closed.now convention day) }
 {
     match convention {
         Convention::Unadjusted => moves::stay(day),

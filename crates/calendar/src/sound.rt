@@ -3,7 +3,7 @@ ghost use Rattle.std.specs.Prelude.{◌≡◌, true, IfOk, IsErrOf, IsOk, ◌↔
 ghost use Rattle.refusal.specs.Answer.{answered};
 ghost use Rattle.calendar.specs.Open.{calendar_ok};
 ghost use Rattle.calendar.specs.Calendar.{is_open_of};
-ghost use Rattle.calendar.specs.Moves.{adjust_move_of};
+ghost use Rattle.calendar.specs.Moves.{moved, adjust_move_of};
 
 use crate::{Convention, Moved, scan, search};
 use date::Date;
@@ -31,7 +31,7 @@ impl<'a> Calendar<'a> {
 
     #[tactic(auto, using(crate::specs::Laws::Told::ok_closed), unfolding(crate::specs::Calendar::is_open_of, refusal::specs::Answer::need))]
     pub fn is_open(&self, date: Date) -> Result<bool, Refusal>
-        ensures { answered result ≡ is_open_of self.now.mask self.now.closed.now date }
+        ensures { answered result ≡ is_open_of self.now.mask self.now.closed.now date.day }
     {
         let day = date.booked()?;
         Ok(scan::is_open(day, self.mask, self.closed))
@@ -39,7 +39,7 @@ impl<'a> Calendar<'a> {
 
     #[tactic(auto, using(crate::specs::Laws::Told::ok_closed), unfolding(crate::specs::Moves::adjust_move_of, crate::specs::Moves::moved_from, crate::specs::Calendar::adjust_of, refusal::specs::Answer::need, refusal::specs::Answer::then))]
     pub fn adjust(&self, date: Date, convention: Convention) -> Result<Moved, Refusal>
-        ensures { answered result ≡ adjust_move_of self.now.mask self.now.closed.now convention date }
+        ensures { moved result ≡ adjust_move_of self.now.mask self.now.closed.now convention date.day }
     {
         let day = date.booked()?;
         search::adjust(day, convention, self.mask, self.closed)

@@ -1,8 +1,8 @@
 // Calendars: a mask of weekly closed days, Monday the lowest bit, and a list of closed dates.
 ghost use Rattle.std.specs.Prelude.{◌≡◌};
-ghost use Rattle.refusal.specs.Answer.{answered, then};
+ghost use Rattle.refusal.specs.Answer.{then};
 ghost use Rattle.calendar.specs.Calendar.{check_of, is_open_of, is_month_end_of};
-ghost use Rattle.calendar.specs.Moves.{adjust_move_of, last_open_move_of, advance_move_of};
+ghost use Rattle.calendar.specs.Moves.{moved, adjust_move_of, last_open_move_of, advance_move_of};
 ghost use Rattle.crossing.specs.Answers.{one_number_of, yes, done, MovePlace};
 ghost use Rattle.crossing.specs.Numbers.{unit_of, convention_of, flag_of};
 
@@ -70,7 +70,7 @@ fn advanced(
     mask: u8,
     closed: &[u32],
 ) -> Result<Moved, Refusal>
-    ensures { answered result ≡ then (unit_of unit) (λ u. then (convention_of convention) (λ c. then (flag_of monthend) (λ m. advance_move_of mask closed.now tenor u c m day))) }
+    ensures { moved result ≡ then (unit_of unit) (λ u. then (convention_of convention) (λ c. then (flag_of monthend) (λ m. advance_move_of mask closed.now tenor u c m day))) }
 {
     let unit = crossing::unit_of(unit)?;
     let convention = crossing::convention_of(convention)?;

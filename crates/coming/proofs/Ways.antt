@@ -1,7 +1,7 @@
 -- A law for each way through the question, from its refusals to its answer.
 -- Assumes nothing.
 use Prim.Native.Nat.{ℕ, zero, suc, ◌+◌, ◌-◌, ◌*◌, ◌≤◌, ◌<◌}
-use mathlib.Core.Path.{◌≡◌, refl, ap, sym, subst, ◌∙◌}
+use mathlib.Core.Path.{◌≡◌, refl, ap, sym, ◌∙◌}
 use mathlib.Core.Logic.{◌⊎◌, inl, inr, ⊎_elim}
 use mathlib.Core.Bool.{Bool, true, false, false≢true, not, ◌&&◌}
 use mathlib.Core.List.{List, [], ◌∷◌}
@@ -71,7 +71,7 @@ module _ (pace : Pace) (seed : Seed) (x : ℕ) (b : Booked seed x) (k : ℕ) whe
   pub more_ahead : k ≡ tenors_from false pace seed x → Fits w32 (k + 1)
   more_ahead e = record { fits = omega (arith, tenors_few false pace seed x x k b (omega arith) e) }
 
-  pub behind_said : (e day : ℕ) (a a' : Answer ℕ) (r : Bool) → k ≡ tenors_from true pace seed (x + 1) → a ≡ candidate true pace seed k → day ≡ day_or a → a' ≡ candidate true pace seed (k + 1) → pick_n r 1 0 ≡ flag_by a' e → said (coming.Ending day r) ≡ behind_of pace seed e x
+  pub behind_said : (e day : ℕ) (a a' : Answer ℕ) (r : Bool) → k ≡ tenors_from true pace seed (x + 1) → a ≡ candidate true pace seed k → day ≡ day_or a → a' ≡ candidate true pace seed (k + 1) → pick_n r 1 0 ≡ flag_by a' e → said (coming.Ending (record { day = day }) r) ≡ behind_of pace seed e x
   unfolding said behind_of
   behind_said e day a a' r h c d c' f =
       let u : day ≡ day_or (candidate true pace seed (tenors_from true pace seed (x + 1))) = d ∙ ap day_or (c ∙ ap (candidate true pace seed) h) in
@@ -103,10 +103,10 @@ left_are : (q : Request) (closed : List ℕ) (x : ℕ) → in_book x ≡ true �
 unfolding left_rows asked_rows first_row dates_ok five
 left_are q closed x b a = by (straight q a)
   where
-    told : q.first ≡ 0 → q.penultimate ≡ 0 → lt_z (pos 0) q.tenor.length ≡ true → first_row (left_rows q closed) ≡ first_row (asked_rows q closed x)
+    told : q.first.day ≡ 0 → q.penultimate.day ≡ 0 → lt_z (pos 0) q.tenor.length ≡ true → first_row (left_rows q closed) ≡ first_row (asked_rows q closed x)
     told f p n =
-        left_five (in_book q.effective) (in_book q.termination) (calendar_ok q.mask closed) (tenor_ok (nat_abs q.tenor.length) q.tenor.unit)
-        ∙ (λ i. five (sym b i) (in_book q.effective) (in_book q.termination) (sym (no_anchor q.first f) i) (sym (no_anchor q.penultimate p) i) (calendar_ok q.mask closed) (sym (not_negative q.tenor.length n) i) (tenor_ok (nat_abs q.tenor.length) q.tenor.unit) (sym a i))
+        left_five (in_book q.effective.day) (in_book q.termination.day) (calendar_ok q.mask closed) (tenor_ok (nat_abs q.tenor.length) q.tenor.unit)
+        ∙ (λ i. five (sym b i) (in_book q.effective.day) (in_book q.termination.day) (sym (no_anchor q.first.day f) i) (sym (no_anchor q.penultimate.day p) i) (calendar_ok q.mask closed) (sym (not_negative q.tenor.length n) i) (tenor_ok (nat_abs q.tenor.length) q.tenor.unit) (sym a i))
 
     by : Straight q → first_row (left_rows q closed) ≡ first_row (asked_rows q closed x)
     by (backward s) = told s.no_first s.no_penultimate s.positive
@@ -218,9 +218,6 @@ unfolding seed_of
 month_at day seed h = ap (λ (s : Seed). s.month) h
 
 -- ---- between the dates, and the whole answer
-pub passed_as : {q q' : Request} {x : ℕ} → q' ≡ q → Passed q x → Passed q' x
-passed_as {q} {q'} {x} e c = subst (λ (z : Request). Passed z x) (sym e) c
-
 module _ (q : Request) (x : ℕ) (c : Passed q x) where
   module _ (p : Pace) (paced : p ≡ pace q.tenor) (seed : Seed) where
     book_seed : (day : ℕ) → in_book day ≡ true → SeedIn p.monthly day seed → Booked seed x
@@ -230,23 +227,23 @@ module _ (q : Request) (x : ℕ) (c : Passed q x) where
         by false e = omega (arith, s.no_month e)
         by true e = omega (arith, (since day b).1, month_at day seed (s.whole e))
 
-    pub back_booked : SeedIn p.monthly q.termination seed → Booked seed x
-    back_booked s = book_seed q.termination c.termination s
+    pub back_booked : SeedIn p.monthly q.termination.day seed → Booked seed x
+    back_booked s = book_seed q.termination.day c.termination s
 
-    pub on_booked : SeedIn p.monthly q.effective seed → Booked seed x
-    on_booked s = book_seed q.effective c.effective s
+    pub on_booked : SeedIn p.monthly q.effective.day seed → Booked seed x
+    on_booked s = book_seed q.effective.day c.effective s
 
     is_paced : p ≡ pace_of q.tenor
     is_paced = paced ∙ pace_checked q.tenor c.tenor
 
     module _ (t : Bool) (u : t ≡ is_backward q.rule) (r : Coming) where
-      pub goes_back : t ≡ true → SeedIn p.monthly q.termination seed → said r ≡ behind_of p seed q.effective x → said r ≡ comes_between q x
+      pub goes_back : t ≡ true → SeedIn p.monthly q.termination.day seed → said r ≡ behind_of p seed q.effective.day x → said r ≡ comes_between q x
       goes_back e s m =
-          m ∙ (behind_in p q.termination seed s q.effective x ∙ ap (λ (z : Pace). behind_of z (seed_of false q.termination) q.effective x) is_paced ∙ behind_is q x ∙ ap (λ (b : Bool). pick_c b (comes_backward q x) (comes_forward q x)) (sym e ∙ u))
+          m ∙ (behind_in p q.termination.day seed s q.effective.day x ∙ ap (λ (z : Pace). behind_of z (seed_of false q.termination.day) q.effective.day x) is_paced ∙ behind_is q x ∙ ap (λ (b : Bool). pick_c b (comes_backward q x) (comes_forward q x)) (sym e ∙ u))
 
-      pub goes_on : t ≡ false → SeedIn p.monthly q.effective seed → said r ≡ ahead_of p seed q.termination x → said r ≡ comes_between q x
+      pub goes_on : t ≡ false → SeedIn p.monthly q.effective.day seed → said r ≡ ahead_of p seed q.termination.day x → said r ≡ comes_between q x
       goes_on e s m =
-          m ∙ (ahead_in p q.effective seed s q.termination x ∙ ap (λ (z : Pace). ahead_of z (seed_of false q.effective) q.termination x) is_paced ∙ ahead_is q x ∙ ap (λ (b : Bool). pick_c b (comes_backward q x) (comes_forward q x)) (sym e ∙ u))
+          m ∙ (ahead_in p q.effective.day seed s q.termination.day x ∙ ap (λ (z : Pace). ahead_of z (seed_of false q.effective.day) q.termination.day x) is_paced ∙ ahead_is q x ∙ ap (λ (b : Bool). pick_c b (comes_backward q x) (comes_forward q x)) (sym e ∙ u))
 
 module _ (q : Request) (closed : List ℕ) (x : ℕ) (tested : Result (Prim.Unit {0}) Refusal) (h : number (answered tested) ≡ first_row (asked_rows q closed x)) where
   pub is_refused : (d : Result Coming Refusal) (r : Refusal) → tested ≡ Err r → IsErr d × IsErrAnd d (λ k. k ≡ r) → meant d ≡ coming_of q closed x
@@ -267,23 +264,23 @@ module _ (q : Request) (closed : List ℕ) (x : ℕ) (tested : Result (Prim.Unit
     is_given r m = ap given m ∙ ap (λ (k : ℕ). unless_refused k (comes_after q x)) no_row
 
     abbrev rest : Comes
-    rest = pick_c (leb q.termination x) none_comes (comes_between q x)
+    rest = pick_c (leb q.termination.day x) none_comes (comes_between q x)
 
-    pub is_first : (d : ℕ) → d ≡ q.effective → x < d → meant (Ok (coming.Effective d)) ≡ coming_of q closed x
+    pub is_first : x < q.effective.day → meant (Ok (coming.Effective q.effective)) ≡ coming_of q closed x
     unfolding said comes_after
-    is_first d i l = is_given (coming.Effective d) (ap begins i ∙ ap (λ (b : Bool). pick_c b (begins q.effective) rest) (sym (lt-ltb x q.effective (omega (arith, i)))))
+    is_first l = is_given (coming.Effective q.effective) (ap (λ (b : Bool). pick_c b (begins q.effective.day) rest) (sym (lt-ltb x q.effective.day l)))
 
-    module _ (d t : ℕ) (i : d ≡ q.effective) (k : t ≡ q.termination) (l : d ≤ x) where
+    module _ (l : q.effective.day ≤ x) where
       not_before : rest ≡ comes_after q x
       unfolding comes_after
-      not_before = ap (λ (b : Bool). pick_c b (begins q.effective) rest) (sym (le-ltb x q.effective (omega (arith, i))))
+      not_before = ap (λ (b : Bool). pick_c b (begins q.effective.day) rest) (sym (le-ltb x q.effective.day l))
 
-      pub is_none : t ≤ x → meant (Ok coming.Nothing) ≡ coming_of q closed x
+      pub is_none : q.termination.day ≤ x → meant (Ok coming.Nothing) ≡ coming_of q closed x
       unfolding said
-      is_none g = is_given coming.Nothing (ap (λ (b : Bool). pick_c b none_comes (comes_between q x)) (sym (le-leb q.termination x (omega (arith, k)))) ∙ not_before)
+      is_none g = is_given coming.Nothing (ap (λ (b : Bool). pick_c b none_comes (comes_between q x)) (sym (le-leb q.termination.day x g)) ∙ not_before)
 
-      pub is_between : (r : Coming) → x < t → said r ≡ comes_between q x → meant (Ok r) ≡ coming_of q closed x
-      is_between r g m = is_given r (m ∙ ap (λ (b : Bool). pick_c b none_comes (comes_between q x)) (sym (lt-leb q.termination x (omega (arith, k)))) ∙ not_before)
+      pub is_between : (r : Coming) → x < q.termination.day → said r ≡ comes_between q x → meant (Ok r) ≡ coming_of q closed x
+      is_between r g m = is_given r (m ∙ ap (λ (b : Bool). pick_c b none_comes (comes_between q x)) (sym (lt-leb q.termination.day x g)) ∙ not_before)
 
     pub passed : Passed q x
     passed =

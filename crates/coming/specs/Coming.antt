@@ -55,7 +55,7 @@ on_or (refused n) t = comes t 0
 
 unfoldable pub comes_forward : Request → ℕ → Comes
 comes_forward q x =
-    on_or (tenors_after q (suc (most_on_by q.tenor.unit q.effective x / tenor_count q))) q.termination
+    on_or (tenors_after q (suc (most_on_by q.tenor.unit q.effective.day x / tenor_count q))) q.termination.day
 
 -- ---- backward, from termination: as many tenors as keep after x; irregular if one more passes before effective
 unfoldable pub flag_by : Answer ℕ → ℕ → ℕ
@@ -63,16 +63,16 @@ flag_by (given d) e = pick_n (leb e d) 1 0
 flag_by (refused n) e = 0
 
 abbrev pub tenors_kept : Request → ℕ → ℕ
-tenors_kept q x = most_by q.tenor.unit (x + 1) q.termination / tenor_count q
+tenors_kept q x = most_by q.tenor.unit (x + 1) q.termination.day / tenor_count q
 
 unfoldable pub comes_backward : Request → ℕ → Comes
 comes_backward q x =
-    comes (day_or (tenors_before q (tenors_kept q x))) (flag_by (tenors_before q (suc (tenors_kept q x))) q.effective)
+    comes (day_or (tenors_before q (tenors_kept q x))) (flag_by (tenors_before q (suc (tenors_kept q x))) q.effective.day)
 
 -- ---- the whole answer: before effective it is effective, from termination on there is none
 abbrev pub between_or : Request → ℕ → Comes → Comes
 between_or q x between =
-    pick_c (ltb x q.effective) (begins q.effective) (pick_c (leb q.termination x) none_comes between)
+    pick_c (ltb x q.effective.day) (begins q.effective.day) (pick_c (leb q.termination.day x) none_comes between)
 
 abbrev pub comes_between : Request → ℕ → Comes
 comes_between q x = pick_c (is_backward q.rule) (comes_backward q x) (comes_forward q x)
@@ -89,8 +89,8 @@ coming_of q closed x = unless_refused (first_row (asked_rows q closed x)) (comes
 
 -- ---- what the code's answer means, in every case; a flag is a byte, 1 regular
 unfoldable pub said : Coming → Comes
-said (coming.Effective d) = begins d
-said (coming.Ending d regular) = comes d (pick_n regular 1 0)
+said (coming.Effective d) = begins d.day
+said (coming.Ending d regular) = comes d.day (pick_n regular 1 0)
 said coming.Nothing = none_comes
 
 unfoldable pub meant : Result Coming Refusal → Answer Comes

@@ -47,13 +47,13 @@ shows_once s x a b (at_none h) (at_later i d' f' p' e' g') = absurd (not_none s 
 shows_once s x a b (at_none h) (at_none h') = refl
 
 -- what it shows of a day before effective, from termination on, and between them
-pub by_cases : (q : Request) (s : Schedule) (x : ℕ) (a : Comes) → (x < q.effective → Shows s x (begins q.effective)) → (q.termination ≤ x → Shows s x none_comes) → (q.effective ≤ x → x < q.termination → Shows s x a) → Shows s x (between_or q x a)
+pub by_cases : (q : Request) (s : Schedule) (x : ℕ) (a : Comes) → (x < q.effective.day → Shows s x (begins q.effective.day)) → (q.termination.day ≤ x → Shows s x none_comes) → (q.effective.day ≤ x → x < q.termination.day → Shows s x a) → Shows s x (between_or q x a)
 by_cases q s x a first none next =
     ⊎_elim
-    (λ (h : q.effective ≤ x).
+    (λ (h : q.effective.day ≤ x).
     ⊎_elim
-    (λ (i : q.termination ≤ x). rw (le-ltb x q.effective h, le-leb q.termination x i) (none i))
-    (λ (i : x < q.termination). rw (le-ltb x q.effective h, lt-leb q.termination x i) (next h i))
-    (le_or_lt q.termination x))
-    (λ (h : x < q.effective). rw (lt-ltb x q.effective h) (first h))
-    (le_or_lt q.effective x)
+    (λ (i : q.termination.day ≤ x). rw (le-ltb x q.effective.day h, le-leb q.termination.day x i) (none i))
+    (λ (i : x < q.termination.day). rw (le-ltb x q.effective.day h, lt-leb q.termination.day x i) (next h i))
+    (le_or_lt q.termination.day x))
+    (λ (h : x < q.effective.day). rw (lt-ltb x q.effective.day h) (first h))
+    (le_or_lt q.effective.day x)

@@ -1,9 +1,9 @@
 // Whole tenors between a seed and a day: one division.
 ghost use Rattle.std.specs.Prelude.{◌≡◌, ◌+◌, ◌-◌, ◌*◌, ◌/◌};
-ghost use Rattle.refusal.specs.Answer.{answered};
 ghost use Rattle.steps.specs.Candidates.{is_past};
 ghost use Rattle.plain.specs.Most.{day_or};
 ghost use Rattle.coming.specs.Laws.Counted.{apart, most_months, most_from, tenors_from, Counts};
+ghost use Rattle.date.specs.Date.{dated};
 
 use date::{Date, Fields, civil, span};
 use refusal::Refusal;
@@ -29,7 +29,7 @@ fn is_past(back: bool, exit: u32, day: u32) -> bool
 }
 
 pub(crate) fn day_or(d: Result<Date, Refusal>) -> u32
-    ensures { result ≡ day_or (answered d) }
+    ensures { result ≡ day_or (dated d) }
 {
     match d {
         Ok(d) => d.day,

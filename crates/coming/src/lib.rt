@@ -10,6 +10,7 @@ ghost use Rattle.steps.specs.Table.{first_row};
 ghost use Rattle.coming.specs.Coming.{is_direct, is_answered, asked_rows, on_or, flag_by, comes_between, coming_of, said, meant};
 ghost use Rattle.coming.specs.Laws.Counted.{behind_of, ahead_of, Booked, SeedIn};
 ghost use Rattle.coming.specs.Inner.Checked.{is_early, left_rows, Passed};
+ghost use Rattle.date.specs.Date.{dated};
 
 use date::{Date, civil, in_book};
 use period::{Period, sign};
@@ -96,7 +97,7 @@ fn check(q: &Request, closed: &[u32], asked: u32) -> Result<(), Refusal>
 // Regular if one tenor more keeps from the effective date on.
 #[tactic(auto, unfolding(crate::specs::Coming::flag_by))]
 fn is_regular(earlier: Result<Date, Refusal>, effective: u32) -> bool
-    ensures { pick_n result 1 0 ≡ flag_by (answered earlier) effective }
+    ensures { pick_n result 1 0 ≡ flag_by (dated earlier) effective }
 {
     match earlier {
         Ok(d) => effective <= d.day,
@@ -121,7 +122,7 @@ fn behind(pace: Pace, seed: Seed, effective: u32, asked: u32) -> Coming
 // A tenor more, or termination where that passes it.
 #[tactic(auto, unfolding(crate::specs::Coming::on_or, crate::specs::Coming::said))]
 fn on_or(later: Result<Date, Refusal>, termination: u32) -> Coming
-    ensures { said result ≡ on_or (answered later) termination }
+    ensures { said result ≡ on_or (dated later) termination }
 {
     match later {
         Ok(d) if d.day <= termination => Coming::Ending {
@@ -183,7 +184,7 @@ fn between(q: &Request, asked: u32) -> Coming
 // Forward and straight. No list is made, so that neither its length nor room matters.
 
 pub fn after(q: Request, closed: &[u32], asked: Date) -> Result<Coming, Refusal>
-    ensures { meant result ≡ coming_of q closed.now asked }
+    ensures { meant result ≡ coming_of q closed.now asked.day }
 {
     let effective = q.effective.day;
     let termination = q.termination.day;

@@ -14,14 +14,14 @@ request_of effective termination size unit rule convention terminal monthend fir
     then (convention_of terminal) (λ t.
     then (flag_of monthend) (λ m.
     given (record {
-      effective = effective;
-      termination = termination;
+      effective = record { day = effective };
+      termination = record { day = termination };
       tenor = record { length = size; unit = u };
       rule = r;
       convention = c;
       terminal = t;
       monthend = m;
-      first = first;
-      penultimate = penultimate;
+      first = record { day = first };
+      penultimate = record { day = penultimate };
       mask = mask;
     }))))))

@@ -37,7 +37,7 @@ impl Crosses for u32 {
 }
 
 impl Crosses for Date {
-    ghost crossing = { λ d. d };
+    ghost crossing = { λ d. d.day };
 
     fn cross(self) -> i64 {
         i64::from(self.day)

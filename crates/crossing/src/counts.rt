@@ -34,9 +34,9 @@ impl Counts for i32 {
 }
 
 impl Counts for Moved {
-    ghost number = { λ m. m.0 };
+    ghost number = { λ m. m.date.day };
 
-    ghost count = { λ m. m.1 };
+    ghost count = { λ m. m.days };
 
     fn parts(self) -> (u32, i32) {
         (self.date.day, self.days)

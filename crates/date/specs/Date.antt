@@ -1,15 +1,26 @@
 -- Document 01, "Days": what each function of a date answers. A date given lies in the book, and a result from 1800 to 2399.
 -- Assumes nothing.
-use Rattle.std.specs.Prelude.{ℕ, ◌+◌, ◌-◌, ◌*◌, ◌/◌, ◌%◌, min, Bool, true, false, ◌&&◌, leb, ℤ, nat_abs}
+use Rattle.std.specs.Prelude.{ℕ, ◌+◌, ◌-◌, ◌*◌, ◌/◌, ◌%◌, min, Bool, true, false, ◌&&◌, leb, ℤ, nat_abs, Result, Ok, Err}
 use Rattle.std.proofs.Math.IntN.{sub_ℕ}
-use Rattle.refusal.specs.Answer.{Answer, given, need, then, BOOK}
+use Rattle.refusal.specs.Answer.{Answer, given, refused, need, then, BOOK}
+use Rattle.refusal.specs.declared.Refusal.{Refusal}
+use Rattle.refusal.specs.Refusals.{number_of}
 use Rattle.std.specs.declared.cmp.Ordering.{Ordering}
 use Rattle.std.specs.Ordering.{nat_cmp}
 use Rattle.period.specs.Period.{is_negative}
 use Rattle.period.specs.declared.Unit.{Unit}
 use Rattle.period.specs.declared.Unit.TheVariants.{Days, Weeks, Months, Years}
+use Rattle.date.specs.declared.Date.{Date}
 use Rattle.date.specs.declared.Fields.{Fields}
 use Rattle.date.specs.Civil.{day_number, month_length, fields_of, weekday_of, days_until}
+
+-- ---- what the code's result says where its value is a date: the day number, or the number of the refusal
+abbrev pub dated_by : {E : Type 0} → (E → ℕ) → Result Date E → Answer ℕ
+dated_by number (Ok d) = given d.day
+dated_by number (Err e) = refused (number e)
+
+abbrev pub dated : Result Date Refusal → Answer ℕ
+dated r = dated_by number_of r
 
 -- ---- the book, and the span of results: 1800-01-01 to 2399-12-31
 unfoldable pub in_book : ℕ → Bool

@@ -1,7 +1,6 @@
 // Days from 1800-01-01 to 2399-12-31: what the crates above use for dates that may lie beyond the book.
 ghost use Rattle.std.specs.Prelude.{◌≡◌, ◌+◌, ◌<◌, min};
-ghost use Rattle.refusal.specs.Answer.{answered};
-ghost use Rattle.date.specs.Date.{within_span, in_month, last_of_month, step, shift_days, shift_months, shifted};
+ghost use Rattle.date.specs.Date.{dated, within_span, in_month, last_of_month, step, shift_days, shift_months, shifted};
 
 use crate::{Date, civil};
 use period::Unit;
@@ -14,7 +13,7 @@ pub const LAST: u32 = 876216;
 // The day, or refusal 2 where it lies outside.
 #[tactic(auto, unfolding(crate::specs::Date::within_span, refusal::specs::Answer::need))]
 pub fn within(n: u64) -> Result<Date, Refusal>
-    ensures { answered result ≡ within_span n }
+    ensures { dated result ≡ within_span n }
 {
     if FIRST as u64 <= n && n <= LAST as u64 {
         Ok(Date { day: n as u32 })
@@ -49,7 +48,7 @@ fn number_in(t: u64, day: u32) -> u32
 
 // The day of a month, or the month's last day where it is shorter.
 pub fn in_month(t: u64, day: u32) -> Result<Date, Refusal>
-    ensures { answered result ≡ in_month t day }
+    ensures { dated result ≡ in_month t day }
 {
     within(number_in(t, day) as u64)
 }
@@ -57,7 +56,7 @@ pub fn in_month(t: u64, day: u32) -> Result<Date, Refusal>
 // A day's own number, taken for a day of the month, is past the month's end but for days of year 1, which lie outside. With 31 in
 // its place the compiler expands `in_month` here.
 pub fn last_of_month(n: u32) -> Result<Date, Refusal>
-    ensures { answered result ≡ last_of_month n }
+    ensures { dated result ≡ last_of_month n }
 {
     let f = civil::fields_of(n);
     in_month(12 * (f.year as u64) + (f.month as u64) - 1, n)
@@ -80,7 +79,7 @@ fn step_by(back: bool, n: u64, k: u64) -> u64
 #[tactic(auto, unfolding(crate::specs::Date::shift_days, refusal::specs::Answer::need))]
 fn shift_days(n: u32, back: bool, k: u64) -> Result<Date, Refusal>
     requires { k < 1099511627776 }
-    ensures { answered result ≡ shift_days n back k }
+    ensures { dated result ≡ shift_days n back k }
 {
     within(step_by(back, n as u64, k))
 }
@@ -88,7 +87,7 @@ fn shift_days(n: u32, back: bool, k: u64) -> Result<Date, Refusal>
 // The same day k months after or before day n, or the last day of a shorter month.
 fn shift_months(n: u32, back: bool, k: u64) -> Result<Date, Refusal>
     requires { k < 1099511627776 }
-    ensures { answered result ≡ shift_months n back k }
+    ensures { dated result ≡ shift_months n back k }
 {
     let f = civil::fields_of(n);
     let t = step_by(back, 12 * (f.year as u64) + (f.month as u64) - 1, k);
@@ -97,7 +96,7 @@ fn shift_months(n: u32, back: bool, k: u64) -> Result<Date, Refusal>
 
 // The day of the month k months after or before month t, or that month's last day where it is shorter.
 pub fn months_from(t: u32, back: bool, k: u32, day: u32) -> Result<Date, Refusal>
-    ensures { answered result ≡ in_month (step back t k) day }
+    ensures { dated result ≡ in_month (step back t k) day }
 {
     within(number_in(step_by(back, t as u64, k as u64), day) as u64)
 }
@@ -105,7 +104,7 @@ pub fn months_from(t: u32, back: bool, k: u32, day: u32) -> Result<Date, Refusal
 #[tactic(auto, unfolding(crate::specs::Date::shifted, refusal::specs::Answer::need))]
 fn shift(n: u32, back: bool, k: u64, unit: Unit) -> Result<Date, Refusal>
     requires { k < 4294967296 }
-    ensures { answered result ≡ shifted n back k unit }
+    ensures { dated result ≡ shifted n back k unit }
 {
     match unit {
         Unit::Days => shift_days(n, back, k),
@@ -117,7 +116,7 @@ fn shift(n: u32, back: bool, k: u64, unit: Unit) -> Result<Date, Refusal>
 
 // The day k units after or before day n.
 pub fn shift_by(n: u32, back: bool, k: u32, unit: Unit) -> Result<Date, Refusal>
-    ensures { answered result ≡ shifted n back k unit }
+    ensures { dated result ≡ shifted n back k unit }
 {
     shift(n, back, k as u64, unit)
 }

@@ -1,9 +1,9 @@
 // The search for an open day over two lists that keep their rule, from a day of the book: the calendar's own, lent the run of a year. No
 // search leaves the year that it starts in and the next one, so that each direction looks up two runs at most.
 ghost use Rattle.std.specs.Prelude.{◌≡◌, true, ◌≤◌, ◌<◌};
-ghost use Rattle.refusal.specs.Answer.{answered, given, need, BOOK};
-ghost use Rattle.date.specs.Date.{in_book, step};
-ghost use Rattle.calendar.specs.Moves.{moved_from};
+ghost use Rattle.refusal.specs.Answer.{given, need, BOOK};
+ghost use Rattle.date.specs.Date.{dated, in_book, step};
+ghost use Rattle.calendar.specs.Moves.{moved, moved_from};
 ghost use Rattle.calendar.specs.AnyCalendar.{in_span, first_open, found, modified, adjusted};
 ghost use Rattle.desk.specs.Desk.{in_years, opens_over};
 ghost use Rattle.desk.specs.Runs.{Within};
@@ -26,7 +26,7 @@ fn first_in<'a>(
     lists: Lists<'a>,
 ) -> Result<Date, Refusal>
     requires { (in_years year ≡ true) × (in_span day ≡ true) × (tries ≤ 31) × Within back day tries year }
-    ensures { answered result ≡ first_open (opens_over mask lists.entry.desk.now lists.entry.house.now) back tries day }
+    ensures { dated result ≡ first_open (opens_over mask lists.entry.desk.now lists.entry.house.now) back tries day }
 {
     let run = runs::held(lists, year);
     scan::first_open(day, back, tries, mask, run)
@@ -44,7 +44,7 @@ fn beside(n: u32, back: bool) -> u32
 // The days that are left of the day's year, and then the rest among those of the year beside it.
 fn first_over<'a>(day: u32, back: bool, mask: u8, lists: Lists<'a>) -> Result<Date, Refusal>
     requires { in_book day ≡ true }
-    ensures { answered result ≡ first_open (opens_over mask lists.entry.desk.now lists.entry.house.now) back 31 day }
+    ensures { dated result ≡ first_open (opens_over mask lists.entry.desk.now lists.entry.house.now) back 31 day }
 {
     let year = civil::fields_of(day).year;
     let end = years::end_of(year, back);
@@ -64,7 +64,7 @@ fn first_over<'a>(day: u32, back: bool, mask: u8, lists: Lists<'a>) -> Result<Da
 #[tactic(auto, using(crate::proofs::Searching::book_span), unfolding(calendar::specs::AnyCalendar::found, refusal::specs::Answer::need, refusal::specs::Answer::then))]
 fn look<'a>(day: u32, back: bool, mask: u8, lists: Lists<'a>) -> Result<Date, Refusal>
     requires { in_book day ≡ true }
-    ensures { answered result ≡ need BOOK (in_span day) (found (opens_over mask lists.entry.desk.now lists.entry.house.now) back day) }
+    ensures { dated result ≡ need BOOK (in_span day) (found (opens_over mask lists.entry.desk.now lists.entry.house.now) back day) }
 {
     let open = first_over(day, back, mask, lists)?;
     span::within(open.day as u64)
@@ -73,7 +73,7 @@ fn look<'a>(day: u32, back: bool, mask: u8, lists: Lists<'a>) -> Result<Date, Re
 // The day found, or that of the search the other way where the month was left.
 fn look_in_month<'a>(day: u32, back: bool, mask: u8, lists: Lists<'a>) -> Result<Date, Refusal>
     requires { in_book day ≡ true }
-    ensures { answered result ≡ need BOOK (in_span day) (modified (opens_over mask lists.entry.desk.now lists.entry.house.now) back day) }
+    ensures { dated result ≡ need BOOK (in_span day) (modified (opens_over mask lists.entry.desk.now lists.entry.house.now) back day) }
 {
     let found = look(day, back, mask, lists)?;
     if months::same_month(day, found.day) {
@@ -90,7 +90,7 @@ fn by_convention<'a>(
     lists: Lists<'a>,
 ) -> Result<Date, Refusal>
     requires { in_book day ≡ true }
-    ensures { answered result ≡ adjusted (opens_over mask lists.entry.desk.now lists.entry.house.now) convention day }
+    ensures { dated result ≡ adjusted (opens_over mask lists.entry.desk.now lists.entry.house.now) convention day }
 {
     match convention {
         Convention::Unadjusted => span::within(day as u64),
@@ -109,7 +109,7 @@ pub(crate) fn moved<'a>(
     lists: Lists<'a>,
 ) -> Result<Moved, Refusal>
     requires { in_book day ≡ true }
-    ensures { answered result ≡ moved_from (given day) (adjusted (opens_over mask lists.entry.desk.now lists.entry.house.now) convention day) }
+    ensures { moved result ≡ moved_from (given day) (adjusted (opens_over mask lists.entry.desk.now lists.entry.house.now) convention day) }
 {
     moves::to(day, by_convention(day, convention, mask, lists))
 }

@@ -6,6 +6,7 @@ ghost use Rattle.refusal.specs.Answer.{answered};
 ghost use Rattle.calendar.specs.Open.{closed_ok};
 ghost use Rattle.desk.specs.Desk.{in_years, asked_of, lookup_of, calendars_ok, adjust_over_move_of, Combines};
 ghost use Rattle.desk.specs.Runs.{Tells, PlaceTold};
+ghost use Rattle.calendar.specs.Moves.{moved};
 
 use calendar::{Convention, Moved, closed_dates};
 use date::Date;
@@ -128,7 +129,7 @@ pub fn adjust<'a>(
     desk: &'a [u32],
     house: &'a [u32],
 ) -> Result<Moved, Refusal>
-    ensures { answered result ≡ adjust_over_move_of mask desk.now house.now convention date }
+    ensures { moved result ≡ adjust_over_move_of mask desk.now house.now convention date.day }
 {
     let day = date.booked()?;
     if !is_sound(mask, desk, house) {

@@ -1,16 +1,16 @@
 // The first and the last day of a year from 1800 to 2399.
 ghost use Rattle.std.specs.Prelude.{◌≡◌, true};
-ghost use Rattle.refusal.specs.Answer.{answered};
 ghost use Rattle.date.specs.Civil.{day_number};
 ghost use Rattle.desk.specs.Desk.{in_years};
 ghost use Rattle.desk.specs.Runs.{day_or, end_of};
+ghost use Rattle.date.specs.Date.{dated};
 
 use date::Date;
 use refusal::Refusal;
 
 #[tactic(auto, unfolding(crate::specs::Runs::day_or))]
 fn number_of(date: Result<Date, Refusal>) -> u32
-    ensures { result ≡ day_or (answered date) }
+    ensures { result ≡ day_or (dated date) }
 {
     match date {
         Ok(d) => d.day,

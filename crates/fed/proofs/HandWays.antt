@@ -21,7 +21,7 @@ use Rattle.fed.specs.Handed.{few, numbers_of}
 pub numbers_are : (q : Request) (n : ℕ) {size back unit rule middle last monthend count : ℕ} {neg : Bool} → mag q.tenor.length < 2147483648
     → size ≡ nat_abs (to_z w32 (of_z w32 q.tenor.length)) → neg ≡ is_negative (to_z w32 (of_z w32 q.tenor.length)) → back ≡ yes neg → unit ≡ unit_number q.tenor.unit → rule ≡ rule_number q.rule
     → middle ≡ convention_number q.convention → last ≡ convention_number q.terminal → monthend ≡ yes q.monthend → count ≡ few n
-    → (q.effective ∷ q.termination ∷ size ∷ back ∷ unit ∷ rule ∷ middle ∷ last ∷ monthend ∷ q.first ∷ q.penultimate ∷ q.mask ∷ count ∷ []) ≡ numbers_of q n
+    → (q.effective.day ∷ q.termination.day ∷ size ∷ back ∷ unit ∷ rule ∷ middle ∷ last ∷ monthend ∷ q.first.day ∷ q.penultimate.day ∷ q.mask ∷ count ∷ []) ≡ numbers_of q n
 unfolding numbers_of
 numbers_are q n m s g b u r c t e k =
     let z : to_z w32 (of_z w32 q.tenor.length) ≡ q.tenor.length = same32 q.tenor.length (record { sfits = m }) in

@@ -22,8 +22,8 @@ few n = pick (ltb n 65536) n 65536
 -- anchors, the mask, how many closed dates
 unfoldable pub numbers_of : Request → ℕ → List ℕ
 numbers_of q n =
-    q.effective ∷ q.termination ∷ nat_abs q.tenor.length ∷ yes (is_negative q.tenor.length) ∷ unit_number q.tenor.unit ∷ rule_number q.rule
-    ∷ convention_number q.convention ∷ convention_number q.terminal ∷ yes q.monthend ∷ q.first ∷ q.penultimate ∷ q.mask ∷ few n ∷ []
+    q.effective.day ∷ q.termination.day ∷ nat_abs q.tenor.length ∷ yes (is_negative q.tenor.length) ∷ unit_number q.tenor.unit ∷ rule_number q.rule
+    ∷ convention_number q.convention ∷ convention_number q.terminal ∷ yes q.monthend ∷ q.first.day ∷ q.penultimate.day ∷ q.mask ∷ few n ∷ []
 
 -- 1 where the request was found, minus the number of a refusal; and 0 to go on
 unfoldable pub decoded_number : Result Decoded Refusal → ℤ

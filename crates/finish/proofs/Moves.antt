@@ -12,11 +12,13 @@ use borrow.Author.Rules.{rules as search_rules}
 use borrow.Rule.Slice.PartMut.{put_mid, Post-is}
 use denote.Enum.Declared.{tag_of}
 use types.Run.{OneOf}
-use Rattle.refusal.specs.Answer.{Answer, given, refused, answered, then}
+use Rattle.refusal.specs.Answer.{Answer, given, refused, then}
 use Rattle.std.specs.Prelude.{Result, Ok, Err, IsErr, IsErrAnd}
 use Rattle.refusal.specs.declared.Refusal.{Refusal}
 use Rattle.refusal.specs.Refusals.{number_of}
-use Rattle.refusal.specs.Laws.Answers.{was_given, was_refused}
+use Rattle.date.specs.declared.Date.{Date}
+use Rattle.date.specs.Date.{dated}
+use Rattle.date.specs.Laws.Made.{given_day, refused_day}
 use Rattle.calendar.specs.Open.{closed_ok}
 use Rattle.steps.specs.declared.Move.{Move}
 use Rattle.steps.specs.declared.Move.TheVariants.{ThirdWednesdays}
@@ -89,16 +91,16 @@ module _ {mask : ℕ} {closed : List ℕ} {what : Move} {s₀ s : List ℕ} {i :
   unfolding done
   in_place_whole h ok = sym (rest_none (moved mask closed what) s s i h h) ∙ u.same ok
 
-  module _ (h : i < length s) (x : Result ℕ Refusal) (p : closed_ok closed ≡ true → answered x ≡ moved mask closed what (get_or s i 0)) where
+  module _ (h : i < length s) (x : Result Date Refusal) (p : closed_ok closed ≡ true → dated x ≡ moved mask closed what (get_or s i 0)) where
     pub in_place_refused : (r : Refusal) (d : Done) → x ≡ Err r → IsErr d × IsErrAnd d (λ k. k ≡ r) → closed_ok closed ≡ true → done d s ≡ each (moved mask closed what) s₀
     unfolding done
-    in_place_refused r d e t ok = handed_done d r s t ∙ sym (rest_refused (moved mask closed what) s s i h (number_of r) (was_refused x r _ (p ok) e)) ∙ u.same ok
+    in_place_refused r d e t ok = handed_done d r s t ∙ sym (rest_refused (moved mask closed what) s s i h (number_of r) (refused_day x r _ (p ok) e)) ∙ u.same ok
 
-    pub in_place_moved : (day : ℕ) → x ≡ Ok day → InPlace mask closed what s₀ (set s i day) (i + 1)
-    in_place_moved day e =
+    pub in_place_moved : (date : Date) → x ≡ Ok date → InPlace mask closed what s₀ (set s i date.day) (i + 1)
+    in_place_moved date e =
         record {
-          size = length-set s i day ∙ u.size;
-          same = λ ok. sym (rest_moved (moved mask closed what) s s i h (set s i day) day h (drop-set-lt (suc i) s i day (omega arith)) (was_given x day _ (p ok) e)) ∙ u.same ok;
+          size = length-set s i date.day ∙ u.size;
+          same = λ ok. sym (rest_moved (moved mask closed what) s s i h (set s i date.day) date.day h (drop-set-lt (suc i) s i date.day (omega arith)) (given_day x date _ (p ok) e)) ∙ u.same ok;
         }
 
 pub ruleset moving = (in_place_none, in_place_whole, in_place_refused, in_place_moved, search_rules)
@@ -117,17 +119,17 @@ module _ {Says : (ℕ → Answer ℕ) → Type 0} {src dst₀ dst : List ℕ} {i
   unfolding done
   beside_whole h f s = sym (rest_none f src dst i h (let z = u.size in omega arith)) ∙ u.same f s
 
-  module _ (h : i < length src) (x : Result ℕ Refusal) (p : (f : ℕ → Answer ℕ) → Says f → answered x ≡ f (get_or src i 0)) where
+  module _ (h : i < length src) (x : Result Date Refusal) (p : (f : ℕ → Answer ℕ) → Says f → dated x ≡ f (get_or src i 0)) where
     pub beside_refused : (r : Refusal) (d : Done) → x ≡ Err r → IsErr d × IsErrAnd d (λ k. k ≡ r) → (f : ℕ → Answer ℕ) → Says f → done d dst ≡ each f src
     unfolding done
-    beside_refused r d e t f s = handed_done d r dst t ∙ sym (rest_refused f src dst i h (number_of r) (was_refused x r _ (p f s) e)) ∙ u.same f s
+    beside_refused r d e t f s = handed_done d r dst t ∙ sym (rest_refused f src dst i h (number_of r) (refused_day x r _ (p f s) e)) ∙ u.same f s
 
-    pub beside_moved : (day : ℕ) → x ≡ Ok day → Beside Says src dst₀ (set dst i day) (i + 1)
-    beside_moved day e =
+    pub beside_moved : (date : Date) → x ≡ Ok date → Beside Says src dst₀ (set dst i date.day) (i + 1)
+    beside_moved date e =
         let z = u.size in
         record {
-          size = length-set dst i day ∙ z;
-          same = λ f s. sym (rest_moved f src dst i h src day (omega arith) refl (was_given x day _ (p f s) e)) ∙ u.same f s;
+          size = length-set dst i date.day ∙ z;
+          same = λ f s. sym (rest_moved f src dst i h src date.day (omega arith) refl (given_day x date _ (p f s) e)) ∙ u.same f s;
         }
 
 -- ---- a part

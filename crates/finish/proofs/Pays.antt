@@ -13,7 +13,10 @@ use lib.Dec.{eqb}
 use lib.Seq.{drop-drop, drop_at, take_at, take-take, take-nil, drop-nil, length-take-le}
 use borrow.Author.Tests.{eq-eqb, ne_eqb, eqb-true}
 use Rattle.refusal.specs.Answer.{Answer, given, refused, answered, then}
-use Rattle.refusal.specs.Laws.Answers.{then_given, then_refused, then_stepped, one_given, was_given, was_refused}
+use Rattle.refusal.specs.Laws.Answers.{then_given, then_refused, then_stepped, one_given}
+use Rattle.date.specs.declared.Date.{Date}
+use Rattle.date.specs.Date.{dated}
+use Rattle.date.specs.Laws.Made.{given_day, refused_day}
 use Rattle.std.specs.Prelude.{Result, Ok, Err}
 use Rattle.refusal.specs.declared.Refusal.{Refusal}
 use Rattle.refusal.specs.Refusals.{number_of}
@@ -60,13 +63,13 @@ unfolding done
 pays_none f a b ds ps e h even = rw (← e) (sym (paid_stays f ds ps a a a (omega arith) (omega arith) (omega (arith, e, h)) even (none_paid f a ds ps)))
 
 -- ---- one date
-module _ (f : ℕ → Answer ℕ) (at : ℕ) (ds ps : List ℕ) (h : at < length ds) (even : length ds ≡ length ps) (next : Result ℕ Refusal) (p : answered next ≡ f (get_or ds at 0)) where
-  pub one_moved : (day : ℕ) → next ≡ Ok day → done (Ok tt) (set ps at day) ≡ pay_between f at (at + 1) ds ps
+module _ (f : ℕ → Answer ℕ) (at : ℕ) (ds ps : List ℕ) (h : at < length ds) (even : length ds ≡ length ps) (next : Result Date Refusal) (p : dated next ≡ f (get_or ds at 0)) where
+  pub one_moved : (date : Date) → next ≡ Ok date → done (Ok tt) (set ps at date.day) ≡ pay_between f at (at + 1) ds ps
   unfolding done
-  one_moved day e = sym (pay_one f ds ps at h even ∙ sym (then_given _ day _ _ (was_given next day _ p e) refl))
+  one_moved date e = sym (pay_one f ds ps at h even ∙ sym (then_given _ date.day _ _ (given_day next date _ p e) refl))
 
   pub one_refused : (r : Refusal) → next ≡ Err r → refused (number_of r) ≡ pay_between f at (at + 1) ds ps
-  one_refused r e = sym (pay_one f ds ps at h even ∙ sym (then_refused _ (number_of r) _ (was_refused next r _ p e)))
+  one_refused r e = sym (pay_one f ds ps at h even ∙ sym (then_refused _ (number_of r) _ (refused_day next r _ p e)))
 
 -- some of those that are paid
 module _ (f : ℕ → Answer ℕ) where

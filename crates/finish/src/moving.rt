@@ -1,10 +1,11 @@
 // Dates moved one after the other, in place or into another list. The first that can't be moved refuses.
 ghost use Rattle.std.specs.Prelude.{◌≡◌, ℕ, true, ◌+◌, ◌≤◌, ◌<◌, length};
-ghost use Rattle.refusal.specs.Answer.{Answer, answered};
+ghost use Rattle.refusal.specs.Answer.{Answer};
 ghost use Rattle.calendar.specs.Open.{closed_ok};
 ghost use Rattle.steps.specs.Finish.{moved, each, between};
 ghost use Rattle.finish.specs.Moving.{done, MovesAs};
 ghost use Rattle.finish.specs.Paying.{pay_between};
+ghost use Rattle.date.specs.Date.{dated};
 
 use calendar::moves::date_of;
 use calendar::search;
@@ -15,7 +16,7 @@ use steps::{Move, moves};
 // A third Wednesday is asked for by itself, so that the compiler expands it in the loop, as it does not expand all that a date may become; so is
 // an adjustment, which most single dates want.
 fn moved(day: u32, what: Move, mask: u8, closed: &[u32]) -> Result<Date, Refusal>
-    ensures { closed_ok closed.now ≡ true → answered result ≡ moved mask closed.now what day }
+    ensures { closed_ok closed.now ≡ true → dated result ≡ moved mask closed.now what day }
 {
     match what {
         Move::ThirdWednesdays => moves::third_wednesday(day),

@@ -26,7 +26,7 @@ use Rattle.steps.specs.Generate.{Lists, made_forth, newest, put, put_anchor, clo
 use Rattle.steps.specs.Laws.Grows.{closing_grows}
 use Rattle.working.specs.Step.{Gives, gives, refuses, was_given, was_kept, step_given, step_refused, step_kept}
 use Rattle.working.specs.Part.{Work, Part, held, last_put, last_day, Fills, fills, begun_placed}
-use Rattle.working.specs.Dates.{dated_stops, dated_on, dates}
+use Rattle.working.specs.Dates.{day_stops, day_on, dates}
 use Rattle.working.specs.Held.{newest_read}
 use Rattle.working.specs.declared.Tip.{Tip}
 use Rattle.working.specs.Turning.{Front, Ahead}
@@ -38,11 +38,11 @@ use Rattle.forwards.specs.Closing.{FrontServes, Shuts}
 -- ---- the last date
 module _ {C : Type 0} {view : C → Lists} {Keeps : C → Type 0} {r : Answer C} (q : Request) (room : ℕ) (l : Lists) where
   module _ (b : Bool) (p : b ≡ on_twentieths q.rule) where
-    pub closing_plain : b ≡ false → Gives view Keeps (put room q.termination 0 l) r → Gives view Keeps (put_closing false q room l) r
+    pub closing_plain : b ≡ false → Gives view Keeps (put room q.termination.day 0 l) r → Gives view Keeps (put_closing false q room l) r
     unfolding put_closing closing_day then
     closing_plain e g = rw (sym p ∙ e) g
 
-    pub closing_twentieth : b ≡ true → Gives view Keeps (then (next_twentieth q.rule q.termination) (λ day. put room day 1 l)) r → Gives view Keeps (put_closing false q room l) r
+    pub closing_twentieth : b ≡ true → Gives view Keeps (then (next_twentieth q.rule q.termination.day) (λ day. put room day 1 l)) r → Gives view Keeps (put_closing false q room l) r
     unfolding put_closing closing_day
     closing_twentieth e g = rw (sym p ∙ e) g
 
@@ -75,23 +75,23 @@ module _ (q : Request) (closed : List ℕ) {room : ℕ} (tip : Tip) {w : Work} (
   was : answered kept ≡ adjusted q.mask closed q.terminal day
   was = paid p.begun.calendar (rw here p.front)
 
-  closing_at : {C : Type 0} {view : C → Lists} {Keeps : C → Type 0} {r : Answer C} → Gives view Keeps (then (adjusted q.mask closed q.terminal day) (λ a. then (adjusted q.mask closed q.terminal q.termination) (λ b. put_closing (eqb a b) q room (held false tip.n w)))) r → Gives view Keeps (closing q closed room (held false tip.n w)) r
+  closing_at : {C : Type 0} {view : C → Lists} {Keeps : C → Type 0} {r : Answer C} → Gives view Keeps (then (adjusted q.mask closed q.terminal day) (λ a. then (adjusted q.mask closed q.terminal q.termination.day) (λ b. put_closing (eqb a b) q room (held false tip.n w)))) r → Gives view Keeps (closing q closed room (held false tip.n w)) r
   unfolding closing
   closing_at g = rw here at g
 
   pub close_stop : (k : Refusal) → kept ≡ Err k → (r : Result Closing Refusal) → IsErr r × IsErrAnd r (λ j. j ≡ k) → Then r w
-  close_stop k e r h = closing_at (dated_stops _ _ kept k was e r h)
+  close_stop k e r h = closing_at (day_stops _ _ kept k was e r h)
 
-  module _ (a : ℕ) (e : kept ≡ Ok a) (moved : Result ℕ Refusal) (m : closed_ok closed ≡ true → answered moved ≡ adjusted q.mask closed q.terminal q.termination) where
-    then_paid : answered moved ≡ adjusted q.mask closed q.terminal q.termination
+  module _ (a : ℕ) (e : kept ≡ Ok a) (moved : Result ℕ Refusal) (m : closed_ok closed ≡ true → answered moved ≡ adjusted q.mask closed q.terminal q.termination.day) where
+    then_paid : answered moved ≡ adjusted q.mask closed q.terminal q.termination.day
     then_paid = m p.begun.calendar
 
     pub close_closed : (k : Refusal) → moved ≡ Err k → (r : Result Closing Refusal) → IsErr r × IsErrAnd r (λ j. j ≡ k) → Then r w
-    close_closed k t r h = closing_at (dated_on _ _ kept a a was e refl (dated_stops _ _ moved k then_paid t r h))
+    close_closed k t r h = closing_at (day_on _ _ kept a a was e refl (day_stops _ _ moved k then_paid t r h))
 
     module _ (b : ℕ) (h : moved ≡ Ok b) where
       by_test : {C : Type 0} {view : C → Lists} {Keeps : C → Type 0} {r : Answer C} → Gives view Keeps (put_closing (eqb a b) q room (held false tip.n w)) r → Gives view Keeps (closing q closed room (held false tip.n w)) r
-      by_test g = closing_at (dated_on _ _ kept a a was e refl (dated_on _ _ moved b b then_paid h refl g))
+      by_test g = closing_at (day_on _ _ kept a a was e refl (day_on _ _ moved b b then_paid h refl g))
 
       pub close_same : a ≡ b → Then (Ok (record { n = tip.n; last = record { day = day; paid = a } })) w
       close_same s =
@@ -102,9 +102,9 @@ module _ (q : Request) (closed : List ℕ) {room : ℕ} (tip : Tip) {w : Work} (
         close_full k t r i =
             by_test (closing_other q room _ a b s (rw (handed_on r k i) (refuses (number_of k) (sym (step_refused f put k t p.begun.part)))))
 
-        pub close_put : (n : ℕ) → f ≡ Ok n → Then (Ok (record { n = n; last = record { day = q.termination; paid = b } })) w'
+        pub close_put : (n : ℕ) → f ≡ Ok n → Then (Ok (record { n = n; last = record { day = q.termination.day; paid = b } })) w'
         close_put n t =
-            by_test (closing_other q room _ a b s (gives (record { n = n; last = record { day = q.termination; paid = b } }) (sym (step_given f put n t p.begun.part)) (record { placed = step_kept f put n t p.begun.part; sure = record { so = λ z. answers.was_given moved b _ then_paid h } })))
+            by_test (closing_other q room _ a b s (gives (record { n = n; last = record { day = q.termination.day; paid = b } }) (sym (step_given f put n t p.begun.part)) (record { placed = step_kept f put n t p.begun.part; sure = record { so = λ z. answers.was_given moved b _ then_paid h } })))
 
 -- ---- what has been generated
 none_taken : (m : ℕ) → take {A = ℕ} m [] ≡ []
@@ -117,9 +117,9 @@ tail_taken (suc n) [] h = let e : suc n - 1 ≡ n = omega arith in rw (e, none_t
 tail_taken (suc n) (x ∷ xs) h = let e : suc n - 1 ≡ n = omega arith in rw e refl
 
 -- the next-to-last date, then the last one
-pub end_is : (q : Request) (closed : List ℕ) (room tries seed : ℕ) (l : Lists) → then (put_anchor q.mask closed q.convention room q.penultimate l) (λ m. then (closing q closed room m) (λ n. given (made_forth tries seed n))) ≡ forward_end q closed room tries seed l
+pub end_is : (q : Request) (closed : List ℕ) (room tries seed : ℕ) (l : Lists) → then (put_anchor q.mask closed q.convention room q.penultimate.day l) (λ m. then (closing q closed room m) (λ n. given (made_forth tries seed n))) ≡ forward_end q closed room tries seed l
 unfolding forward_end shut then
-end_is q closed room tries seed l = by (put_anchor q.mask closed q.convention room q.penultimate l)
+end_is q closed room tries seed l = by (put_anchor q.mask closed q.convention room q.penultimate.day l)
   where
     by : (a : Answer Lists) → then a (λ m. then (closing q closed room m) (λ n. given (made_forth tries seed n))) ≡ then (then a (closing q closed room)) (λ n. given (made_forth tries seed n))
     by (given m) = refl

@@ -64,7 +64,7 @@ fn under_of(basis: Basis) -> u32
 // Numerator and denominator of a period.
 #[tactic(auto, unfolding(crate::specs::Fractions::parts_of, crate::specs::Fractions::in_span, refusal::specs::Answer::need))]
 pub fn year_parts(basis: Basis, start: Date, end: Date) -> Result<Parts, Refusal>
-    ensures { answered result ≡ parts_of basis start end }
+    ensures { answered result ≡ parts_of basis start.day end.day }
 {
     let a = start.day;
     let b = end.day;
@@ -93,7 +93,7 @@ fn quotient_of(p: Parts) -> f64
 // The fraction of a year that a period is.
 #[tactic(auto, unfolding(crate::specs::Fractions::fraction, crate::specs::Fractions::fraction_of, refusal::specs::Answer::then))]
 pub fn year_fraction(basis: Basis, start: Date, end: Date) -> Fraction
-    ensures { fraction result ≡ fraction_of basis start end }
+    ensures { fraction result ≡ fraction_of basis start.day end.day }
 {
     match year_parts(basis, start, end) {
         Ok(p) => Fraction::Of(quotient_of(p)),

@@ -9,12 +9,13 @@ use lib.Dec.{eqb, leb}
 use lib.ListN.{take, drop}
 use lib.Seq.{drop-drop}
 use borrow.Author.Rules.{rules}
-use borrow.Author.Tests.{eqb-true, eqb-false, ne_eqb, le-leb, lt-leb, le-ltb, lt-ltb}
+use borrow.Author.Tests.{eqb-true, eqb-false, le-leb, lt-leb}
 use Rattle.refusal.specs.declared.Refusal.{Refusal}
 use Rattle.refusal.specs.declared.Refusal.TheVariants.{Ical, IcalKind}
 use Rattle.refusal.specs.Refusals.{number_of}
-use Rattle.refusal.specs.Answer.{given, answered}
-use Rattle.date.specs.Date.{make_of}
+use Rattle.refusal.specs.Answer.{given}
+use Rattle.date.specs.declared.Date.{Date}
+use Rattle.date.specs.Date.{make_of, dated}
 use Rattle.date.specs.Laws.Made.{given_day, refused_day}
 use Rattle.std.specs.Prelude.{Option, None, Some, Result, Ok, Err}
 use Rattle.holidays.specs.declared.lines.Place.{Place}
@@ -24,7 +25,7 @@ use Rattle.holidays.specs.Words.{Bytes, pick, ascii, upper, uppers, equal, spell
 use Rattle.holidays.specs.Nesting.{is_blank}
 use Rattle.holidays.specs.Dated.{timed, bad, is_date, day_of, is_clock, is_date_time, by_kind}
 use Rattle.holidays.specs.Laws.Letters.{spelled_so, spelled_not}
-use Rattle.holidays.specs.Laws.Digits.{Eight, no_century, no_year, no_month, no_day, day_of_pairs, no_hour, no_minute, no_second, clock_is, date_positive, no_date, some_date, whole, no_whole, too_long, time_behind, made_so, made_not}
+use Rattle.holidays.specs.Laws.Digits.{Eight, no_century, no_year, no_month, no_day, day_of_pairs, no_hour, no_minute, no_second, clock_is, no_date, some_date, whole, no_whole, too_long, time_behind, made_so, made_not}
 use Rattle.holidays.specs.Inner.Letters.{letter, pack, packs}
 use Rattle.holidays.specs.Inner.Along.{ahead, Before, Steps}
 use Rattle.holidays.specs.Inner.Digits.{pair_of, pair_number, IsDigitRead, IsDigit, IsTwo, Paired, pair_in, PairRead, IsPairRead, ReadsPair, day_or_0, IsSmall, Numbers, day_in, DayRead, IsDayRead, ReadsDay, ClockRead, IsClockRead, ReadsClock, zone_in, time_in, kind_is, date_answer, IsSmallDay, SaysDate}
@@ -131,13 +132,13 @@ module _ {file : Bytes} {at line : ℕ} {r : Option (ℕ × Place)} (s : Steps f
 pub ruleset pairs_of = (took_before, pair_none, pair_one, pair_bad, pair_two, rules)
 
 -- ---- a day by its number
-module _ (y m d : ℕ) {r : Result ℕ Refusal} (e : answered r ≡ make_of (2000 + y % 400) m d) where
-  pub number_is : (x : ℕ) {n : ℕ} → r ≡ Ok x → y ≤ 10100 → n ≡ x + y / 400 * 146097 - 584388 → Numbers y m d (Some n)
+module _ (y m d : ℕ) {r : Result Date Refusal} (e : dated r ≡ make_of (2000 + y % 400) m d) where
+  pub number_is : (x : Date) {n : ℕ} → r ≡ Ok x → y ≤ 10100 → n ≡ x.day + y / 400 * 146097 - 584388 → Numbers y m d (Some n)
   unfolding day_or_0 IsSmall
   number_is x {n} h low q =
-      let t = made_so y m d x (given_day r x _ e h) in
+      let t = made_so y m d x.day (given_day r x _ e h) in
       let k : y / 400 ≤ 25 = omega arith in
-      let s = small x (y / 400) t.1.1.0 t.1.1.1 k in
+      let s = small x.day (y / 400) t.1.1.0 t.1.1.1 k in
       record { same = q ∙ sym t.1.0 ∙ taken _ _ _ t.0; few = (omega (arith, q, s.0), omega (arith, q, s.1)) }
     where
       small : (n k : ℕ) → 657072 ≤ n → n ≤ 876216 → k ≤ 25 → (1 ≤ n + k * 146097 - 584388) × (n + k * 146097 - 584388 ≤ 5000000)
@@ -147,11 +148,11 @@ module _ (y m d : ℕ) {r : Result ℕ Refusal} (e : answered r ≡ make_of (200
   unfolding day_or_0 IsSmall
   number_not n h = record { same = left _ _ _ (made_not y m d (number_of n) (refused_day r n _ e h)); few = tt }
 
-  pub number_low : (x : ℕ) → r ≡ Ok x → 657072 ≤ x
-  number_low x h = (made_so y m d x (given_day r x _ e h)).1.1.0
+  pub number_low : (x : Date) → r ≡ Ok x → 657072 ≤ x.day
+  number_low x h = (made_so y m d x.day (given_day r x _ e h)).1.1.0
 
-  pub number_high : (x : ℕ) → r ≡ Ok x → x ≤ 876216
-  number_high x h = (made_so y m d x (given_day r x _ e h)).1.1.1
+  pub number_high : (x : Date) → r ≡ Ok x → x.day ≤ 876216
+  number_high x h = (made_so y m d x.day (given_day r x _ e h)).1.1.1
 
 pub ruleset number_ways = (number_is, number_not, number_low, number_high, rules)
 

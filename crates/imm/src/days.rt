@@ -2,8 +2,7 @@
 #![tactic(auto, using(date::specs::Laws::Moves::year_at_lem, crate::proofs::Ways::month_at), unfolding(crate::specs::Imm::third_of, crate::specs::Imm::cycle_from, crate::specs::Imm::stride, crate::specs::Imm::next_from, crate::specs::Imm::next_of, crate::specs::Imm::or_else, crate::specs::Imm::first_year, crate::specs::Imm::date_from, crate::specs::Imm::date_of, date::specs::Date::month_index, refusal::specs::Answer::then))]
 
 ghost use Rattle.std.specs.Prelude.{◌≡◌, ◌≤◌, ◌<◌};
-ghost use Rattle.refusal.specs.Answer.{answered};
-ghost use Rattle.date.specs.Date.{month_index};
+ghost use Rattle.date.specs.Date.{dated, month_index};
 ghost use Rattle.imm.specs.Imm.{third_wednesday, third_of, cycle_from, stride, next_from, next_of, first_year, date_from, date_of};
 
 use date::Date;
@@ -12,14 +11,14 @@ use refusal::Refusal;
 pub(crate) const WEDNESDAY: u32 = 3;
 
 fn third_wednesday(month: u32, year: u32) -> Result<Date, Refusal>
-    ensures { answered result ≡ third_wednesday month year }
+    ensures { dated result ≡ third_wednesday month year }
 {
     Date::nth_weekday(3, WEDNESDAY, month, year)
 }
 
 // The IMM date of a month counted as 12 * year + month - 1.
 fn third_of(t: u32) -> Result<Date, Refusal>
-    ensures { answered result ≡ third_of t }
+    ensures { dated result ≡ third_of t }
 {
     third_wednesday(t % 12 + 1, t / 12)
 }
@@ -48,7 +47,7 @@ fn stride_of(main: bool) -> u32
 
 fn next_from(main: bool, n: u32, t: u32) -> Result<Date, Refusal>
     requires { t < 200000003 }
-    ensures { answered result ≡ next_from main n t }
+    ensures { dated result ≡ next_from main n t }
 {
     let coming = third_of(t)?;
     if n < coming.day {
@@ -59,7 +58,7 @@ fn next_from(main: bool, n: u32, t: u32) -> Result<Date, Refusal>
 
 // The earliest IMM date after day n.
 pub(crate) fn next_after(main: bool, n: u32) -> Result<Date, Refusal>
-    ensures { answered result ≡ next_of main n }
+    ensures { dated result ≡ next_of main n }
 {
     next_from(main, n, cycle_from(main, month_index(n)))
 }
@@ -74,7 +73,7 @@ fn first_year(year: u32, digit: u32) -> u32
 
 fn date_from(month: u32, year: u32, n: u32) -> Result<Date, Refusal>
     requires { year < 20000010 }
-    ensures { answered result ≡ date_from month year n }
+    ensures { dated result ≡ date_from month year n }
 {
     let first = third_wednesday(month, year)?;
     if n <= first.day {
@@ -86,7 +85,7 @@ fn date_from(month: u32, year: u32, n: u32) -> Result<Date, Refusal>
 // The earliest IMM date on or after day n of that month, in a year with that last digit.
 pub(crate) fn date_of(month: u32, digit: u32, n: u32) -> Result<Date, Refusal>
     requires { digit < 10 }
-    ensures { answered result ≡ date_of month digit n }
+    ensures { dated result ≡ date_of month digit n }
 {
     let f = date::civil::fields_of(n);
     date_from(month, first_year(f.year, digit), n)

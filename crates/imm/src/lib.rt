@@ -4,6 +4,7 @@
 ghost use Rattle.std.specs.Prelude.{◌≡◌};
 ghost use Rattle.refusal.specs.Answer.{answered};
 ghost use Rattle.imm.specs.Imm.{is_imm_date, is_imm_in, is_code, code_in, date_in, next_in, next_with_code, next_code_in, next_code_with_code};
+ghost use Rattle.date.specs.Date.{dated};
 
 use codes::Code;
 use date::Date;
@@ -28,7 +29,7 @@ pub fn is_imm_day(day: u32, main: bool) -> bool
 
 // Whether the date is a Wednesday, day 15 to 21; for the main cycle also of month 3, 6, 9 or 12.
 pub fn is_imm_date(date: Date, main: bool) -> Result<bool, Refusal>
-    ensures { answered result ≡ is_imm_in main date }
+    ensures { answered result ≡ is_imm_in main date.day }
 {
     Ok(is_imm_day(date.booked()?, main))
 }
@@ -45,7 +46,7 @@ pub fn is_imm_code(code: &[u8], main: bool) -> bool
 
 // The code of an IMM date.
 pub fn code(date: Date) -> Result<Code, Refusal>
-    ensures { answered result ≡ code_in date }
+    ensures { answered result ≡ code_in date.day }
 {
     let n = date.booked()?;
     if is_imm_day(n, false) {
@@ -57,7 +58,7 @@ pub fn code(date: Date) -> Result<Code, Refusal>
 
 // The earliest IMM date on or after the reference that has the code's month and last digit of the year.
 pub fn date(code: &[u8], reference: Date) -> Result<Date, Refusal>
-    ensures { answered result ≡ date_in code.now reference }
+    ensures { dated result ≡ date_in code.now reference.day }
 {
     let n = reference.booked()?;
     if !is_imm_code(code, false) {
@@ -68,14 +69,14 @@ pub fn date(code: &[u8], reference: Date) -> Result<Date, Refusal>
 
 // The earliest IMM date after the reference.
 pub fn next_date(reference: Date, main: bool) -> Result<Date, Refusal>
-    ensures { answered result ≡ next_in main reference }
+    ensures { dated result ≡ next_in main reference.day }
 {
     days::next_after(main, reference.booked()?)
 }
 
 // The earliest IMM date after the one that the code names; any month's letter will do.
 pub fn next_date_with_code(code: &[u8], main: bool, reference: Date) -> Result<Date, Refusal>
-    ensures { answered result ≡ next_with_code code.now main reference }
+    ensures { dated result ≡ next_with_code code.now main reference.day }
 {
     let named = date(code, reference)?;
     days::next_after(main, named.day)
@@ -83,7 +84,7 @@ pub fn next_date_with_code(code: &[u8], main: bool, reference: Date) -> Result<D
 
 // The code of the earliest IMM date after the reference.
 pub fn next_code(reference: Date, main: bool) -> Result<Code, Refusal>
-    ensures { answered result ≡ next_code_in main reference }
+    ensures { answered result ≡ next_code_in main reference.day }
 {
     let coming = next_date(reference, main)?;
     Ok(codes::code_of(coming.day))
@@ -91,7 +92,7 @@ pub fn next_code(reference: Date, main: bool) -> Result<Code, Refusal>
 
 // The code of the earliest IMM date after the one that the code names.
 pub fn next_code_with_code(code: &[u8], main: bool, reference: Date) -> Result<Code, Refusal>
-    ensures { answered result ≡ next_code_with_code code.now main reference }
+    ensures { answered result ≡ next_code_with_code code.now main reference.day }
 {
     let coming = next_date_with_code(code, main, reference)?;
     Ok(codes::code_of(coming.day))

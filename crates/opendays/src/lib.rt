@@ -7,6 +7,7 @@ ghost use Rattle.refusal.specs.Answer.{answered, given, need, BOOK};
 ghost use Rattle.calendar.specs.Open.{calendar_ok};
 ghost use Rattle.calendar.specs.Adjust.{in_span};
 ghost use Rattle.opendays.specs.OpenDays.{indexed, Written, make_of, count_of, nth_of, add_of, remove_of};
+ghost use Rattle.date.specs.Date.{dated};
 
 use calendar::sound::Calendar;
 use date::{Date, span};
@@ -52,7 +53,7 @@ fn check(mask: u8, closed: &[u32], index: &[u32]) -> Result<(), Refusal>
 // The day number, of a date that may be closed: one from 1800 to 2399.
 #[tactic(auto, unfolding(calendar::specs::AnyCalendar::in_span, date::specs::Date::within_span, refusal::specs::Answer::need))]
 fn spanned(date: Date) -> Result<u32, Refusal>
-    ensures value { answered result ≡ need BOOK (in_span date) (given date) }
+    ensures value { answered result ≡ need BOOK (in_span date.day) (given date.day) }
     ensures inside { IfOk result (λ day. (657072 ≤ day) × (day ≤ 876216)) }
 {
     Ok(span::within(date.day as u64)?.day)
@@ -77,7 +78,7 @@ pub fn count(
     closed: &[u32],
     index: &[u32],
 ) -> Result<u32, Refusal>
-    ensures { answered result ≡ count_of mask closed.now index.now first last }
+    ensures { answered result ≡ count_of mask closed.now index.now first.day last.day }
 {
     check(mask, closed, index)?; // before the first date, as document 01 has it
     let from = first.booked()?;
@@ -92,7 +93,7 @@ pub fn count(
 // The n-th open day after the date, n from 1 to 366.
 #[tactic(auto, unfolding(crate::specs::OpenDays::nth_of, crate::specs::OpenDays::indexed, refusal::specs::Answer::need))]
 pub fn nth(date: Date, n: u32, mask: u8, closed: &[u32], index: &[u32]) -> Result<Date, Refusal>
-    ensures { answered result ≡ nth_of mask closed.now index.now date n }
+    ensures { dated result ≡ nth_of mask closed.now index.now date.day n }
 {
     check(mask, closed, index)?; // before the date and the count of days
     let day = date.booked()?;
@@ -109,7 +110,7 @@ pub fn nth(date: Date, n: u32, mask: u8, closed: &[u32], index: &[u32]) -> Resul
 // The index of the calendar with one closed date more; the list is that of before the change.
 #[tactic(auto, using(crate::specs::Laws::Years::place_to, calendar::specs::Laws::Told::ok_closed), unfolding(crate::specs::OpenDays::add_of, crate::specs::OpenDays::indexed, crate::specs::OpenDays::changed, crate::specs::OpenDays::index_after, refusal::specs::Answer::need))]
 pub fn add(date: Date, mask: u8, closed: &[u32], index: &mut [u32]) -> Result<(), Refusal>
-    ensures { Written (add_of mask closed.now index.old date) (answered result) index.old index.new }
+    ensures { Written (add_of mask closed.now index.old date.day) (answered result) index.old index.new }
 {
     check(mask, closed, index)?;
     let day = spanned(date)?;
@@ -126,7 +127,7 @@ pub fn add(date: Date, mask: u8, closed: &[u32], index: &mut [u32]) -> Result<()
 // The index of the calendar with one closed date less; the list is that of before the change.
 #[tactic(auto, using(crate::specs::Laws::Years::place_to, calendar::specs::Laws::Told::ok_closed), unfolding(crate::specs::OpenDays::remove_of, crate::specs::OpenDays::unless_weekly, crate::specs::OpenDays::indexed, crate::specs::OpenDays::changed, crate::specs::OpenDays::index_after, refusal::specs::Answer::need))]
 pub fn remove(date: Date, mask: u8, closed: &[u32], index: &mut [u32]) -> Result<(), Refusal>
-    ensures { Written (remove_of mask closed.now index.old date) (answered result) index.old index.new }
+    ensures { Written (remove_of mask closed.now index.old date.day) (answered result) index.old index.new }
 {
     check(mask, closed, index)?;
     let day = spanned(date)?;

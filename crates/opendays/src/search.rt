@@ -1,7 +1,6 @@
 // The n-th open day after a day: the year by the counts, then on by the week, and over the closed dates on the way.
 ghost use Rattle.std.specs.Prelude.{◌≡◌, true, ◌+◌, ◌-◌, ◌*◌, ◌≤◌, ◌<◌, length};
-ghost use Rattle.refusal.specs.Answer.{answered};
-ghost use Rattle.date.specs.Date.{in_book};
+ghost use Rattle.date.specs.Date.{dated, in_book};
 ghost use Rattle.opendays.specs.Count.{tally, weekly_open, nth_open};
 ghost use Rattle.opendays.specs.Index.{nth_by};
 ghost use Rattle.opendays.specs.Inner.Steps.{Found};
@@ -26,7 +25,7 @@ fn kth_weekly(mask: u8, from: u32, k: u32) -> u32
 // The k-th open day from a day on. Each closed date on the way, that is not weekly closed, moves it to the next day that is not.
 fn kth_open<'a>(calendar: Calendar<'a>, from: u32, k: u32) -> Result<Date, Refusal>
     requires { (657072 ≤ from) × (from ≤ 876216) × (1 ≤ k) × (k ≤ 300000) }
-    ensures { answered result ≡ nth_open calendar.entry.mask calendar.entry.closed.now from k }
+    ensures { dated result ≡ nth_open calendar.entry.mask calendar.entry.closed.now from k }
 {
     let mask = calendar.mask;
     let closed = calendar.closed;
@@ -46,7 +45,7 @@ fn kth_open<'a>(calendar: Calendar<'a>, from: u32, k: u32) -> Result<Date, Refus
 
 pub(crate) fn nth_after<'a, 'b>(index: Index<'a, 'b>, day: u32, n: u32) -> Result<Date, Refusal>
     requires { (in_book day ≡ true) × (1 ≤ n) × (n ≤ 366) }
-    ensures { answered result ≡ nth_by index.entry.calendar.mask index.entry.calendar.closed.now index.entry.counts.now day n }
+    ensures { dated result ≡ nth_by index.entry.calendar.mask index.entry.calendar.closed.now index.entry.counts.now day n }
 {
     let rank = counts::rank(index, day + 1) + n;
     let year = counts::year_before(index.counts, rank, counts::place_of(day + 1));

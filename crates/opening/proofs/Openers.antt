@@ -12,9 +12,10 @@ use borrow.Author.Tests.{eq-eqb, ne_eqb, lt-ltb, le-ltb}
 use Rattle.std.specs.Prelude.{Result, Ok, Err, IsErr, IsErrAnd}
 use Rattle.refusal.specs.declared.Refusal.{Refusal}
 use Rattle.refusal.specs.Refusals.{number_of}
-use Rattle.refusal.specs.Answer.{Answer, given, refused, answered, then, ROOM}
-use Rattle.refusal.specs.Laws.Answers.{fails, holds, then_given, then_refused, was_given, was_refused, handed_on}
-use Rattle.date.specs.Date.{SPAN_LAST}
+use Rattle.refusal.specs.Answer.{Answer, given, refused, then, ROOM}
+use Rattle.refusal.specs.Laws.Answers.{fails, holds, then_given, then_refused}
+use Rattle.date.specs.declared.Date.{Date}
+use Rattle.date.specs.Date.{SPAN_LAST, dated}
 use Rattle.calendar.specs.Adjust.{advanced}
 use Rattle.steps.specs.declared.Rule.{Rule}
 use Rattle.steps.specs.declared.Request.{Request}
@@ -30,6 +31,7 @@ use Rattle.opening.specs.declared.Opening.{Opening}
 use Rattle.opening.specs.First.{firsts}
 use Rattle.opening.specs.Opening as opens_as
 use Rattle.opening.specs.Opening.{opened_at, opened_ready, opens}
+use Rattle.date.specs.Laws.Made.{given_day, refused_day, day_handed_on}
 use Rattle.opening.proofs.Spans.{next_span}
 
 pub fresh_part : {closed : List ℕ} {room n : ℕ} {w : Work} → Fresh closed room n w → Part room n w
@@ -46,34 +48,34 @@ module _ {C : Type 0} {view : C → Lists} {Keeps : C → Type 0} {r : Answer C}
     credit_put h g = rw (le-ltb effective a h) g
 
   module _ (q : Request) (closed : List ℕ) (room : ℕ) (b : Bool) (p : b ≡ is_credit q.rule) where
-    pub opening_effective : b ≡ false → Gives view Keeps (put room q.effective 1 nothing) r → Gives view Keeps (opening q closed room) r
+    pub opening_effective : b ≡ false → Gives view Keeps (put room q.effective.day 1 nothing) r → Gives view Keeps (opening q closed room) r
     unfolding opening opening_by
     opening_effective e g = rw (sym p ∙ e) g
 
-    pub opening_credit : b ≡ true → Gives view Keeps (then (previous_twentieth q.rule q.effective) (credit_opening q closed room)) r → Gives view Keeps (opening q closed room) r
+    pub opening_credit : b ≡ true → Gives view Keeps (then (previous_twentieth q.rule q.effective.day) (credit_opening q closed room)) r → Gives view Keeps (opening q closed room) r
     unfolding opening opening_by
     opening_credit e g = rw (sym p ∙ e) g
 
 pub ruleset first_date = (credit_earlier, credit_put, opening_effective, opening_credit, regrouped, dates, fills, firsts, fresh_part, rules)
 
 -- ---- the coming twentieth
-module _ (rule : Rule) (effective : ℕ) (next : Result ℕ Refusal) (s : answered next ≡ next_twentieth rule effective) where
-  pub coming_stop : (k : Refusal) → next ≡ Err k → (r : Result ℕ Refusal) → IsErr r × IsErrAnd r (λ j. j ≡ k) → answered r ≡ coming_twentieth rule effective
+module _ (rule : Rule) (effective : ℕ) (next : Result Date Refusal) (s : dated next ≡ next_twentieth rule effective) where
+  pub coming_stop : (k : Refusal) → next ≡ Err k → (r : Result Date Refusal) → IsErr r × IsErrAnd r (λ j. j ≡ k) → dated r ≡ coming_twentieth rule effective
   unfolding coming_twentieth
-  coming_stop k e r h = handed_on r k h ∙ then_refused _ (number_of k) _ (was_refused next k _ s e)
+  coming_stop k e r h = day_handed_on r k h ∙ then_refused _ (number_of k) _ (refused_day next k _ s e)
 
-  module _ (d : ℕ) (e : next ≡ Ok d) where
-    pub coming_few : d ≤ SPAN_LAST
-    coming_few = (next_span rule effective d (was_given next d _ s e)).high
+  module _ (d : Date) (e : next ≡ Ok d) where
+    pub coming_few : d.day ≤ SPAN_LAST
+    coming_few = (next_span rule effective d.day (given_day next d _ s e)).high
 
-    module _ (b : Bool) (p : b ≡ is_near rule effective d) where
-      pub coming_far : b ≡ true → next_twentieth rule (d + 1) ≡ coming_twentieth rule effective
+    module _ (b : Bool) (p : b ≡ is_near rule effective d.day) where
+      pub coming_far : b ≡ true → next_twentieth rule (d.day + 1) ≡ coming_twentieth rule effective
       unfolding coming_twentieth far_enough
-      coming_far h = then_given _ d _ _ (was_given next d _ s e) (rw (sym p ∙ h) refl)
+      coming_far h = then_given _ d.day _ _ (given_day next d _ s e) (rw (sym p ∙ h) refl)
 
-      pub coming_here : b ≡ false → given d ≡ coming_twentieth rule effective
+      pub coming_here : b ≡ false → given d.day ≡ coming_twentieth rule effective
       unfolding coming_twentieth far_enough
-      coming_here h = then_given _ d _ _ (was_given next d _ s e) (rw (sym p ∙ h) refl)
+      coming_here h = then_given _ d.day _ _ (given_day next d _ s e) (rw (sym p ∙ h) refl)
 
 -- ---- the second date
 -- the seed that the code read is the newest date
@@ -91,25 +93,25 @@ some_is q closed room l (suc x) h = refl
 
 module _ {C : Type 0} {view : C → Opened} {Keeps : C → Type 0} {r : Answer C} (q : Request) (room : ℕ) (l : Lists) where
   module _ (day : ℕ) where
-    pub coming_same : day ≡ q.effective → Gives view Keeps (given (record { lists = l; seed = newest l })) r → Gives view Keeps (put_coming (eqb day q.effective) q room day l) r
+    pub coming_same : day ≡ q.effective.day → Gives view Keeps (given (record { lists = l; seed = newest l })) r → Gives view Keeps (put_coming (eqb day q.effective.day) q room day l) r
     unfolding put_coming
-    coming_same e g = rw (eq-eqb day q.effective e) g
+    coming_same e g = rw (eq-eqb day q.effective.day e) g
 
-    module _ (h : day ≡ q.effective → ⊥) (b : Bool) (p : b ≡ is_credit q.rule) where
-      pub coming_credit : b ≡ true → Gives view Keeps (put_seed room day 1 l) r → Gives view Keeps (put_coming (eqb day q.effective) q room day l) r
+    module _ (h : day ≡ q.effective.day → ⊥) (b : Bool) (p : b ≡ is_credit q.rule) where
+      pub coming_credit : b ≡ true → Gives view Keeps (put_seed room day 1 l) r → Gives view Keeps (put_coming (eqb day q.effective.day) q room day l) r
       unfolding put_coming
-      coming_credit e g = rw (ne_eqb day q.effective h, sym p ∙ e) g
+      coming_credit e g = rw (ne_eqb day q.effective.day h, sym p ∙ e) g
 
-      pub coming_plain : b ≡ false → Gives view Keeps (put_seed room day 0 l) r → Gives view Keeps (put_coming (eqb day q.effective) q room day l) r
+      pub coming_plain : b ≡ false → Gives view Keeps (put_seed room day 0 l) r → Gives view Keeps (put_coming (eqb day q.effective.day) q room day l) r
       unfolding put_coming
-      coming_plain e g = rw (ne_eqb day q.effective h, sym p ∙ e) g
+      coming_plain e g = rw (ne_eqb day q.effective.day h, sym p ∙ e) g
 
   module _ (b : Bool) (p : b ≡ on_twentieths q.rule) where
     pub twentieth_none : b ≡ false → Gives view Keeps (given (record { lists = l; seed = newest l })) r → Gives view Keeps (put_twentieth (on_twentieths q.rule) q room l) r
     unfolding put_twentieth
     twentieth_none e g = rw (sym p ∙ e) g
 
-    pub twentieth_on : b ≡ true → Gives view Keeps (then (coming_twentieth q.rule q.effective) (λ day. put_coming (eqb day q.effective) q room day l)) r → Gives view Keeps (put_twentieth (on_twentieths q.rule) q room l) r
+    pub twentieth_on : b ≡ true → Gives view Keeps (then (coming_twentieth q.rule q.effective.day) (λ day. put_coming (eqb day q.effective.day) q room day l)) r → Gives view Keeps (put_twentieth (on_twentieths q.rule) q room l) r
     unfolding put_twentieth
     twentieth_on e g = rw (sym p ∙ e) g
 
@@ -127,7 +129,7 @@ module _ {C : Type 0} {view : C → Opened} {Keeps : C → Type 0} {r : Answer C
   unfolding put_first
   first_full h e = rw e (refuses ROOM (fails ROOM _ _ (no_room false p.part h)))
 
-  pub first_on : (day : ℕ) → n < room → (length w.days ≡ 4096 → n < 4097 → day ≡ last_day false n w.days) → Gives view Keeps (then (tenor_on q closed day) (λ d. put_seed room q.first (same_flag d q.first) (held false n w))) r → Gives view Keeps (put_first q closed room (held false n w)) r
+  pub first_on : (day : ℕ) → n < room → (length w.days ≡ 4096 → n < 4097 → day ≡ last_day false n w.days) → Gives view Keeps (then (tenor_on q closed day) (λ d. put_seed room q.first.day (same_flag d q.first.day) (held false n w))) r → Gives view Keeps (put_first q closed room (held false n w)) r
   unfolding put_first
   first_on day h at g =
       let e : day ≡ newest (held false n w) = newest_read false day p.part at in

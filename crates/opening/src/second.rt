@@ -1,11 +1,11 @@
 // The second date of a forward build: the request's first date, or a twentieth.
 ghost use Rattle.std.specs.Prelude.{◌≡◌, true, eqb};
-ghost use Rattle.refusal.specs.Answer.{answered};
 ghost use Rattle.calendar.specs.Open.{closed_ok};
 ghost use Rattle.steps.specs.Rules.{on_twentieths};
 ghost use Rattle.steps.specs.Generate.{coming_twentieth, is_near, put_seed, put_coming, put_twentieth, put_first, tenor_on, second};
 ghost use Rattle.working.specs.Part.{working, Part, Placed, Begun};
 ghost use Rattle.opening.specs.Opening.{Opens};
+ghost use Rattle.date.specs.Date.{dated};
 
 use crate::Opening;
 use calendar::{advances, moves};
@@ -39,7 +39,7 @@ fn is_near(rule: Rule, effective: u32, day: u32) -> bool
 }
 
 fn coming_twentieth(rule: Rule, effective: u32) -> Result<Date, Refusal>
-    ensures { answered result ≡ coming_twentieth rule effective }
+    ensures { dated result ≡ coming_twentieth rule effective }
 {
     let coming = twentieths::next(effective, rule)?;
     if is_near(rule, effective, coming.day) {
@@ -57,7 +57,7 @@ fn put_coming(
     work: &mut [u32],
     marks: &mut [u8],
 ) -> Result<Opening, Refusal>
-    ensures { Opens (Placed room) room (put_coming (eqb day q.now.effective) q.now room day) n (working work.old marks.old) result (working work.new marks.new) }
+    ensures { Opens (Placed room) room (put_coming (eqb day q.now.effective.day) q.now room day) n (working work.old marks.old) result (working work.new marks.new) }
 {
     let rule = q.rule;
     if day == q.effective.day {
@@ -121,7 +121,7 @@ fn put_first(
 
 // One tenor on, on the given calendar.
 fn tenor_on(q: &Request, closed: &[u32], day: u32) -> Result<Date, Refusal>
-    ensures { closed_ok closed.now ≡ true → answered result ≡ tenor_on q.now closed.now day }
+    ensures { closed_ok closed.now ≡ true → dated result ≡ tenor_on q.now closed.now day }
 {
     let tenor = q.tenor;
     let unit = tenor.unit;
@@ -140,7 +140,7 @@ pub(crate) fn put_second(
     work: &mut [u32],
     marks: &mut [u8],
 ) -> Result<Opening, Refusal>
-    ensures { Opens (Begun closed.now room) room (second q.now.first q.now closed.now room) n (working work.old marks.old) result (working work.new marks.new) }
+    ensures { Opens (Begun closed.now room) room (second q.now.first.day q.now closed.now room) n (working work.old marks.old) result (working work.new marks.new) }
 {
     if q.first.day == 0 {
         return put_twentieth(q, room, n, work, marks);

@@ -27,15 +27,15 @@ use Rattle.steps.specs.Build.{steps_of, admitted, build_of}
 asked : Rule → TimeUnit → Convention → Convention → Bool → ℕ → Request
 asked rule unit convention terminal monthend first =
     record {
-      effective = 739312;
-      termination = 739315;
+      effective = record { day = 739312 };
+      termination = record { day = 739315 };
       tenor = record { length = pos 1; unit = unit };
       rule = rule;
       convention = convention;
       terminal = terminal;
       monthend = monthend;
-      first = first;
-      penultimate = 0;
+      first = record { day = first };
+      penultimate = record { day = 0 };
       mask = 63;
     }
 

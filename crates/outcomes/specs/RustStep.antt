@@ -36,11 +36,11 @@ rust_previous rule day =
     then (twentieth_of day) (λ t. then (moved_if (ltb day t) true 1 t) (λ r. moved_if (in_imm_months rule) true (skip_of false (fields_of r).month) r))
 
 unfoldable pub rust_opening : Bool → Request → List ℕ → ℕ → Answer Lists
-rust_opening true q closed room = then (rust_previous q.rule q.effective) (credit_opening q closed room)
-rust_opening false q closed room = put room q.effective 1 nothing
+rust_opening true q closed room = then (rust_previous q.rule q.effective.day) (credit_opening q closed room)
+rust_opening false q closed room = put room q.effective.day 1 nothing
 
 unfoldable pub rust_forward : Request → List ℕ → ℕ → Answer Made
-rust_forward q closed room = then (then (rust_opening (is_credit q.rule) q closed room) (second q.first q closed room)) (forward_from q closed room)
+rust_forward q closed room = then (then (rust_opening (is_credit q.rule) q closed room) (second q.first.day q closed room)) (forward_from q closed room)
 
 unfoldable pub rust_generate_by : Bool → Bool → Request → List ℕ → ℕ → Answer Made
 rust_generate_by true back q closed room = zero_dates q room
@@ -83,10 +83,10 @@ module _ (q : Request) (closed : List ℕ) where
       by : (z b : Bool) → is_zero (rule_in_force q) ≡ z → rust_generate_by z b q closed room ≡ generate_by z b q closed room
       by true b e = refl
       by false true e = refl
-      by false false e = ap (λ (x : Answer Lists). then (then x (second q.first q closed room)) (forward_from q closed room)) (h e)
+      by false false e = ap (λ (x : Answer Lists). then (then x (second q.first.day q closed room)) (forward_from q closed room)) (h e)
 
   -- ---- 1: where the two previous twentieths agree, the build is the same, refusals included
-  pub same_twentieth : rust_previous q.rule q.effective ≡ previous_twentieth q.rule q.effective → (dates flags : ℕ) → rust_build q closed dates flags ≡ build_of q closed dates flags
+  pub same_twentieth : rust_previous q.rule q.effective.day ≡ previous_twentieth q.rule q.effective.day → (dates flags : ℕ) → rust_build q closed dates flags ≡ build_of q closed dates flags
   unfolding rust_opening opening_by
   same_twentieth h = same_build q closed (λ room. same_opening room (λ e. by room (is_credit q.rule)))
     where
@@ -155,11 +155,11 @@ apart rule d b n =
     (rw (r.onward f) w.0, rw (r.onward g) w.1)
 
 -- ---- so no date is put before either
-pub alone : (q : Request) (closed : List ℕ) (room day : ℕ) (l : Lists) → Far q.effective day → credit_opening q closed room day ≡ given l → l ≡ onto day 1 nothing
+pub alone : (q : Request) (closed : List ℕ) (room day : ℕ) (l : Lists) → Far q.effective.day day → credit_opening q closed room day ≡ given l → l ≡ onto day 1 nothing
 unfolding credit_opening put_earlier put then
 alone q closed room day l far h =
     let s = then_stepped (adjusted q.mask closed q.convention day) _ l h in
-    by (ltb q.effective s.value) (le-ltb q.effective s.value (omega (arith, adjusted_near q.mask closed day s.value q.convention s.from))) s.to
+    by (ltb q.effective.day s.value) (le-ltb q.effective.day s.value (omega (arith, adjusted_near q.mask closed day s.value q.convention s.from))) s.to
   where
     by : (c : Bool) → c ≡ false → then (put_earlier c room day) (put room day 1) ≡ given l → l ≡ onto day 1 nothing
     by true e i = absurd (false≢true (sym e))
@@ -200,7 +200,7 @@ pub coming_is : (rule : Rule) (d n : ℕ) → is_old_cds rule ≡ false → next
 unfolding coming_twentieth is_near far_enough then
 coming_is rule d n e h = rw (h, e) refl
 
-module _ (q : Request) (closed : List ℕ) (room a b n : ℕ) (on : on_twentieths q.rule ≡ true) (next : coming_twentieth q.rule q.effective ≡ given n) (off : n ≡ q.effective → ⊥) where
+module _ (q : Request) (closed : List ℕ) (room a b n : ℕ) (on : on_twentieths q.rule ≡ true) (next : coming_twentieth q.rule q.effective.day ≡ given n) (off : n ≡ q.effective.day → ⊥) where
   pub seconds : (first : ℕ) → first ≡ 0 → Alike (Opens a b) (second first q closed room (onto a 1 nothing)) (second first q closed room (onto b 1 nothing))
   unfolding second put_twentieth put_coming then
   seconds zero e = by (on_twentieths q.rule) on
@@ -210,6 +210,6 @@ module _ (q : Request) (closed : List ℕ) (room a b n : ℕ) (on : on_twentieth
       put_in false i = second_alike a b room n _
 
       by : (c : Bool) → c ≡ true → Alike (Opens a b) (put_twentieth c q room (onto a 1 nothing)) (put_twentieth c q room (onto b 1 nothing))
-      by true i = rw next (put_in (eqb n q.effective) (ne_eqb n q.effective off))
+      by true i = rw next (put_in (eqb n q.effective.day) (ne_eqb n q.effective.day off))
       by false i = absurd (false≢true i)
   seconds (suc k) e = let bad : ⊥ = omega arith in absurd bad

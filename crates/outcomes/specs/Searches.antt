@@ -13,10 +13,10 @@ pub data Searches (q : Request) : Type 0 where
   -- end of month is on: the seed is asked whether it is at month end
   for_month_end : q.monthend ≡ true → Searches q
   -- the flag of the first date, where the build goes forward: a tenor in days steps open days, whatever the convention
-  for_first_date : is_backward (rule_in_force q) ≡ false → (q.first ≡ 0 → ⊥) → q.tenor.unit ≡ Days → Searches q
+  for_first_date : is_backward (rule_in_force q) ≡ false → (q.first.day ≡ 0 → ⊥) → q.tenor.unit ≡ Days → Searches q
 
 -- no first date is flagged by open days: there is none, the build goes backward, or the tenor is not in days
 pub data StepsNoOpenDays (q : Request) : Type 0 where
-  no_first : q.first ≡ 0 → StepsNoOpenDays q
+  no_first : q.first.day ≡ 0 → StepsNoOpenDays q
   backward : is_backward (rule_in_force q) ≡ true → StepsNoOpenDays q
   not_days : (q.tenor.unit ≡ Days → ⊥) → StepsNoOpenDays q

@@ -125,7 +125,7 @@ abbrev case : List Ways → ℕ → Ways
 case l i = get_or l i (alike (refused 0))
 
 -- 29 for 28: 2023-01-29 to 02-28
-pub not_29 : BothAgree (λ q. InMonths q.tenor.unit → (fields_of q.effective).day ≤ 29) → ⊥
+pub not_29 : BothAgree (λ q. InMonths q.tenor.unit → (fields_of q.effective.day).day ≤ 29) → ⊥
 unfolding within_span shifted shift_days shift_months step month_index in_month make_of need leap row_of month_length gone sum_to day_number guess years_gone month_in day_in place_of fields_at
 not_29 h =
     let f = h (trade (day_number 2023 1 29) (day_number 2023 2 28) 1 Months) 1 (whole refl (omega arith) refl) (λ i. omega arith) [] 3 3 in

@@ -20,13 +20,13 @@ use Rattle.plain.specs.Forward.{under, tenors_after}
 -- k tenors, in one step, lead from effective to termination; the request's own rule is not read
 pub record Whole (q : Request) (k : ℕ) : Type 0 where
   pub positive : lt_z (pos 0) q.tenor.length ≡ true
-  pub no_first : q.first ≡ 0
-  pub no_penultimate : q.penultimate ≡ 0
+  pub no_first : q.first.day ≡ 0
+  pub no_penultimate : q.penultimate.day ≡ 0
   pub unadjusted : q.convention ≡ Unadjusted
   pub unadjusted_last : q.terminal ≡ Unadjusted
   pub no_month_end : q.monthend ≡ false
   pub some : 1 ≤ k
-  pub leads : tenors_after q k ≡ given q.termination
+  pub leads : tenors_after q k ≡ given q.termination.day
 
 -- ---- ".. and for months and years an effective day of at most 28"
 abbrev pub InMonths : TimeUnit → Type 0
@@ -36,11 +36,11 @@ InMonths Months = Unit {0}
 InMonths Years = Unit {0}
 
 abbrev pub EarlyDay : Request → Type 0
-EarlyDay q = InMonths q.tenor.unit → (fields_of q.effective).day ≤ 28
+EarlyDay q = InMonths q.tenor.unit → (fields_of q.effective.day).day ≤ 28
 
 -- wider, and exact: termination has effective's day of the month
 abbrev pub SameDay : Request → Type 0
-SameDay q = InMonths q.tenor.unit → (fields_of q.termination).day ≡ (fields_of q.effective).day
+SameDay q = InMonths q.tenor.unit → (fields_of q.termination.day).day ≡ (fields_of q.effective.day).day
 
 -- ---- "The builds with Forward and with Backward are equal as answers, refusals with their numbers included": of every closed list and lent length
 abbrev pub BothAgree : (Request → Type 0) → Type 0

@@ -21,12 +21,12 @@ use Rattle.plain.specs.Listed.{ListsAll}
 pub record Plain (q : Request) : Type 0 where
   pub backward : q.rule ≡ Backward
   pub positive : lt_z (pos 0) q.tenor.length ≡ true
-  pub no_first : q.first ≡ 0
-  pub no_penultimate : q.penultimate ≡ 0
+  pub no_first : q.first.day ≡ 0
+  pub no_penultimate : q.penultimate.day ≡ 0
   pub unadjusted : q.convention ≡ Unadjusted
   pub unadjusted_last : q.terminal ≡ Unadjusted
   pub no_month_end : q.monthend ≡ false
-  pub order : q.effective < q.termination
+  pub order : q.effective.day < q.termination.day
 
 -- what `is_plain` answers: true exactly of a plain request
 pub record PlainIf (r : Bool) (q : Request) : Type 0 where
@@ -39,30 +39,30 @@ tenor_length q = nat_abs q.tenor.length
 -- ".. that passes the input checks": what is left of the table for such a request, with `dates` and `flags` places lent
 pub record Passes (q : Request) (closed : List ℕ) (dates flags : ℕ) : Type 0 where
   pub even : dates ≡ flags
-  pub effective_in_book : in_book q.effective ≡ true
-  pub termination_in_book : in_book q.termination ≡ true
+  pub effective_in_book : in_book q.effective.day ≡ true
+  pub termination_in_book : in_book q.termination.day ≡ true
   pub calendar_sound : calendar_ok q.mask closed ≡ true
   pub tenor_short : tenor_ok (tenor_length q) q.tenor.unit ≡ true
 
 -- ---- "Its list is the effective date, then every date after it that lies zero or more whole tenors before termination, ascending."
 -- k whole tenors before termination
 abbrev pub tenors_before : Request → ℕ → Answer ℕ
-tenors_before q k = shifted q.termination true (k * tenor_length q) q.tenor.unit
+tenors_before q k = shifted q.termination.day true (k * tenor_length q) q.tenor.unit
 
 -- d lies so: zero or more whole tenors before termination
 abbrev pub LiesSo : Request → ℕ → Type 0
 LiesSo q d = (k : ℕ) × (tenors_before q k ≡ given d)
 
 abbrev pub OwedDate : Request → ℕ → Type 0
-OwedDate q d = (d ≡ q.effective) ⊎ ((q.effective < d) × LiesSo q d)
+OwedDate q d = (d ≡ q.effective.day) ⊎ ((q.effective.day < d) × LiesSo q d)
 
 abbrev pub Owed : Request → List ℕ → Type 0
 Owed q ds = ListsAll (OwedDate q) ds
 
 -- ---- "Every period is regular, but for the first where the effective date does not lie so." 1 is regular
 pub data FirstFlag (q : Request) (flag : ℕ) : Type 0 where
-  regular : flag ≡ 1 → LiesSo q q.effective → FirstFlag q flag
-  irregular : flag ≡ 0 → (LiesSo q q.effective → ⊥) → FirstFlag q flag
+  regular : flag ≡ 1 → LiesSo q q.effective.day → FirstFlag q flag
+  irregular : flag ≡ 0 → (LiesSo q q.effective.day → ⊥) → FirstFlag q flag
 
 -- the first flag, then a 1 for each other period; the dates ds are two or more (Shape)
 pub record Flagged (q : Request) (ds flags : List ℕ) : Type 0 where
@@ -89,7 +89,7 @@ tenor_count q = count_of q.tenor.unit * tenor_length q
 
 -- x days or months taken from termination
 abbrev pub taken : Request → ℕ → Answer ℕ
-taken q x = shifted q.termination true x (counted_in q.tenor.unit)
+taken q x = shifted q.termination.day true x (counted_in q.tenor.unit)
 
 -- m of them can be taken without passing before day e, and no more
 pub record MostOf (taking : ℕ → Answer ℕ) (e m : ℕ) : Type 0 where
@@ -99,7 +99,7 @@ pub record MostOf (taking : ℕ → Answer ℕ) (e m : ℕ) : Type 0 where
   pub no_more : (x d : ℕ) → taking x ≡ given d → e ≤ d → x ≤ m
 
 abbrev pub Most : Request → ℕ → Type 0
-Most q m = MostOf (taken q) q.effective m
+Most q m = MostOf (taken q) q.effective.day m
 
 -- ---- "It's refused exactly if that list exceeds the room lent, or 4,096. If accepted, the candidates tried number one plus the whole part of m/n."
 abbrev pub TooLong : ℕ → List ℕ → Type 0

@@ -37,12 +37,12 @@ under rule q =
 pub record PlainForward (q : Request) : Type 0 where
   pub forward : q.rule ≡ Forward
   pub positive : lt_z (pos 0) q.tenor.length ≡ true
-  pub no_first : q.first ≡ 0
-  pub no_penultimate : q.penultimate ≡ 0
+  pub no_first : q.first.day ≡ 0
+  pub no_penultimate : q.penultimate.day ≡ 0
   pub unadjusted : q.convention ≡ Unadjusted
   pub unadjusted_last : q.terminal ≡ Unadjusted
   pub no_month_end : q.monthend ≡ false
-  pub order : q.effective < q.termination
+  pub order : q.effective.day < q.termination.day
 
 -- ---- its list is the effective date, then every date after it and not after termination that lies one or more whole tenors after effective, ascending,
 -- then termination if it is not among them
@@ -60,19 +60,19 @@ pub data DueOn (tenors : ℕ → Answer ℕ) (e t d : ℕ) : Type 0 where
 
 -- k whole tenors after effective
 abbrev pub tenors_after : Request → ℕ → Answer ℕ
-tenors_after q k = shifted q.effective false (k * tenor_length q) q.tenor.unit
+tenors_after q k = shifted q.effective.day false (k * tenor_length q) q.tenor.unit
 
 -- d lies one or more whole tenors after effective
 abbrev pub LiesAfter : Request → ℕ → Type 0
 LiesAfter q d = OneOrMore (tenors_after q) d
 
 abbrev pub OwedOn : Request → List ℕ → Type 0
-OwedOn q ds = ListsAll (DueOn (tenors_after q) q.effective q.termination) ds
+OwedOn q ds = ListsAll (DueOn (tenors_after q) q.effective.day q.termination.day) ds
 
 -- ---- every period is regular, but for the last where termination does not lie so
 pub data LastFlag (q : Request) (flag : ℕ) : Type 0 where
-  regular : flag ≡ 1 → LiesAfter q q.termination → LastFlag q flag
-  irregular : flag ≡ 0 → (LiesAfter q q.termination → ⊥) → LastFlag q flag
+  regular : flag ≡ 1 → LiesAfter q q.termination.day → LastFlag q flag
+  irregular : flag ≡ 0 → (LiesAfter q q.termination.day → ⊥) → LastFlag q flag
 
 -- a 1 for each other period, then the last flag; the dates ds are two or more
 pub record FlaggedOn (q : Request) (ds flags : List ℕ) : Type 0 where
@@ -82,7 +82,7 @@ pub record FlaggedOn (q : Request) (ds flags : List ℕ) : Type 0 where
 
 -- ---- n is the tenor in days or months, m the most days or months that can be added to effective without passing termination
 abbrev pub added : Request → ℕ → Answer ℕ
-added q x = shifted q.effective false x (counted_in q.tenor.unit)
+added q x = shifted q.effective.day false x (counted_in q.tenor.unit)
 
 pub record MostAdded (adding : ℕ → Answer ℕ) (t m : ℕ) : Type 0 where
   pub day : ℕ
@@ -91,7 +91,7 @@ pub record MostAdded (adding : ℕ → Answer ℕ) (t m : ℕ) : Type 0 where
   pub no_more : (x d : ℕ) → adding x ≡ given d → d ≤ t → x ≤ m
 
 abbrev pub MostOn : Request → ℕ → Type 0
-MostOn q m = MostAdded (added q) q.termination m
+MostOn q m = MostAdded (added q) q.termination.day m
 
 -- ---- it is refused exactly if that list is too long; if accepted, the candidates tried number one plus the whole part of m/n
 pub record AcceptedOn (q : Request) (ds : List ℕ) (m : ℕ) (s : Schedule) : Type 0 where

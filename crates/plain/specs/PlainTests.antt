@@ -15,7 +15,7 @@ is_unadjusted ModifiedPreceding = false
 
 -- ---- no anchors, and effective before termination
 abbrev pub is_unanchored : Request → Bool
-is_unanchored q = eqb q.first 0 && (eqb q.penultimate 0 && ltb q.effective q.termination)
+is_unanchored q = eqb q.first.day 0 && (eqb q.penultimate.day 0 && ltb q.effective.day q.termination.day)
 
 -- and positive tenor, both conventions Unadjusted, end of month off; under whatever rule
 unfoldable pub is_straight : Request → Bool

@@ -18,15 +18,15 @@ weekends = 96
 abbrev pub request : (rule : Rule) (convention terminal : Convention) (monthend : Bool) (from to : ℕ) (length : ℤ) (unit : Unit) (first penultimate mask : ℕ) → Request
 request rule convention terminal monthend from to length unit first penultimate mask =
     record {
-      effective = from;
-      termination = to;
+      effective = record { day = from };
+      termination = record { day = to };
       tenor = record { length = length; unit = unit };
       rule = rule;
       convention = convention;
       terminal = terminal;
       monthend = monthend;
-      first = first;
-      penultimate = penultimate;
+      first = record { day = first };
+      penultimate = record { day = penultimate };
       mask = mask;
     }
 

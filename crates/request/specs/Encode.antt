@@ -50,15 +50,15 @@ field tag body = record { tag = tag; body = body }
 
 unfoldable pub fields_in : Request → List ℕ → List Field
 fields_in q closed =
-    field EFFECTIVE (bytes4 q.effective)
-    ∷ field TERMINATION (bytes4 q.termination)
+    field EFFECTIVE (bytes4 q.effective.day)
+    ∷ field TERMINATION (bytes4 q.termination.day)
     ∷ field TENOR (tenor_body q.tenor)
     ∷ field RULE (rule_number q.rule ∷ [])
     ∷ field CONVENTION (convention_number q.convention ∷ [])
     ∷ field TERMINAL (convention_number q.terminal ∷ [])
     ∷ field MONTHEND (bit q.monthend ∷ [])
-    ∷ field FIRST (bytes4 q.first)
-    ∷ field PENULTIMATE (bytes4 q.penultimate)
+    ∷ field FIRST (bytes4 q.first.day)
+    ∷ field PENULTIMATE (bytes4 q.penultimate.day)
     ∷ field MASK (q.mask ∷ [])
     ∷ field CLOSED (dates_in closed)
     ∷ []
@@ -82,13 +82,13 @@ laid old at s = sets old at s
 
 -- the same bytes in four parts: dates and tenor, rule to end of month, anchors and mask, closed dates and FF
 abbrev pub dates_part : Request → List ℕ
-dates_part q = spelt EFFECTIVE (bytes4 q.effective) ++ (spelt TERMINATION (bytes4 q.termination) ++ spelt TENOR (tenor_body q.tenor))
+dates_part q = spelt EFFECTIVE (bytes4 q.effective.day) ++ (spelt TERMINATION (bytes4 q.termination.day) ++ spelt TENOR (tenor_body q.tenor))
 
 abbrev pub choices_part : Request → List ℕ
 choices_part q = spelt RULE (rule_number q.rule ∷ []) ++ (spelt CONVENTION (convention_number q.convention ∷ []) ++ (spelt TERMINAL (convention_number q.terminal ∷ []) ++ spelt MONTHEND (bit q.monthend ∷ [])))
 
 abbrev pub anchors_part : Request → List ℕ
-anchors_part q = spelt FIRST (bytes4 q.first) ++ (spelt PENULTIMATE (bytes4 q.penultimate) ++ spelt MASK (q.mask ∷ []))
+anchors_part q = spelt FIRST (bytes4 q.first.day) ++ (spelt PENULTIMATE (bytes4 q.penultimate.day) ++ spelt MASK (q.mask ∷ []))
 
 abbrev pub closed_part : List ℕ → List ℕ
 closed_part closed = spelt CLOSED (dates_in closed) ++ spelt END []

@@ -135,15 +135,15 @@ dates_of (suc n) s = four (get_or s 0 0) (get_or s 1 0) (get_or s 2 0) (get_or s
 unfoldable pub request_from : (List ℕ → ℕ → List ℕ) → Request
 request_from body =
     record {
-      effective = date_of (body [] EFFECTIVE);
-      termination = date_of (body [] TERMINATION);
+      effective = record { day = date_of (body [] EFFECTIVE) };
+      termination = record { day = date_of (body [] TERMINATION) };
       tenor = tenor_of (body (68 ∷ 0 ∷ 0 ∷ []) TENOR);
       rule = rule_of (byte_of (body (1 ∷ []) RULE));
       convention = convention_of (byte_of (body (0 ∷ []) CONVENTION));
       terminal = convention_of (byte_of (body (0 ∷ []) TERMINAL));
       monthend = eqb (byte_of (body (0 ∷ []) MONTHEND)) 1;
-      first = date_of (body [] FIRST);
-      penultimate = date_of (body [] PENULTIMATE);
+      first = record { day = date_of (body [] FIRST) };
+      penultimate = record { day = date_of (body [] PENULTIMATE) };
       mask = byte_of (body (0 ∷ []) MASK);
     }
 

@@ -28,15 +28,15 @@ end = 255 ∷ 0 ∷ 0 ∷ []
 abbrev asking : ℤ → Unit → Request
 asking length unit =
     record {
-      effective = 738156;
-      termination = 738307;
+      effective = record { day = 738156 };
+      termination = record { day = 738307 };
       tenor = record { length = length; unit = unit };
       rule = Backward;
       convention = Unadjusted;
       terminal = Unadjusted;
       monthend = false;
-      first = 0;
-      penultimate = 0;
+      first = record { day = 0 };
+      penultimate = record { day = 0 };
       mask = 0;
     }
 
@@ -54,15 +54,15 @@ far =
 
 pub furthest : decoded far 2 ≡ given (record {
   request = record {
-    effective = 738156;
-    termination = 738307;
+    effective = record { day = 738156 };
+    termination = record { day = 738307 };
     tenor = record { length = negsuc 1; unit = Weeks };
     rule = CDS2015;
     convention = ModifiedPreceding;
     terminal = Preceding;
     monthend = true;
-    first = 738158;
-    penultimate = 4294967295;
+    first = record { day = 738158 };
+    penultimate = record { day = 4294967295 };
     mask = 127;
   };
   closed = 738157 ∷ 738159 ∷ [];

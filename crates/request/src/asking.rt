@@ -23,7 +23,7 @@ pub(crate) trait Bodies {
 
 #[tactic(auto, unfolding(crate::specs::Format::date_of))]
 fn date_of(body: &[u8]) -> Date
-    ensures { result ≡ date_of body.now }
+    ensures { result.day ≡ date_of body.now }
 {
     Date {
         day: numbers::word_in(body),

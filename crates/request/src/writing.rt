@@ -81,7 +81,7 @@ fn put_word(out: &mut [u8], at: usize, n: u32)
 
 fn put_date(out: &mut [u8], at: usize, tag: u8, date: Date)
     requires { at + 7 ≤ length out.old }
-    ensures { out.new ≡ laid out.old at (spelt tag (bytes4 date)) }
+    ensures { out.new ≡ laid out.old at (spelt tag (bytes4 date.day)) }
 {
     put_head(out, at, tag, 4);
     put_word(out, at + 3, date.day);

@@ -92,7 +92,7 @@ made_back tries seed l = record { dates = l.dates; flags = take (length l.dates 
 
 unfoldable pub zero_dates : Request → ℕ → Answer Made
 zero_dates q room =
-    then (then (put room q.termination 1 nothing) (put room q.effective 1)) (λ l. given (made_back 0 0 l))
+    then (then (put room q.termination.day 1 nothing) (put room q.effective.day 1)) (λ l. given (made_back 0 0 l))
 
 -- ---- Backward
 -- the next-to-last date, regular if it is the first candidate from termination
@@ -104,24 +104,24 @@ put_penultimate pace seed room (suc n) l =
 
 unfoldable pub begun : Request → ℕ → Answer Lists
 begun q room =
-    then (put room q.termination 1 nothing)
-    (put_penultimate (pace_of q.tenor) (seed_of q.monthend q.termination) room q.penultimate)
+    then (put room q.termination.day 1 nothing)
+    (put_penultimate (pace_of q.tenor) (seed_of q.monthend q.termination.day) room q.penultimate.day)
 
 -- the first date, if the loop ended at it, then the effective date
 unfoldable pub ended : Request → List ℕ → ℕ → Lists → Answer Lists
 ended q closed room l =
-    then (put_anchor q.mask closed q.convention room q.first l)
-    (put_new q.mask closed q.convention room q.effective q.effective 0)
+    then (put_anchor q.mask closed q.convention room q.first.day l)
+    (put_new q.mask closed q.convention room q.effective.day q.effective.day 0)
 
 unfoldable pub backward_end : Request → (closed : List ℕ) (room tries seed : ℕ) → Lists → Answer Made
 backward_end q closed room tries seed l = then (ended q closed room l) (λ m. given (made_back tries seed m))
 
 abbrev pub back_seed : Request → ℕ
-back_seed q = anchor_or q.penultimate q.termination
+back_seed q = anchor_or q.penultimate.day q.termination.day
 
 unfoldable pub backward_from : Request → List ℕ → ℕ → Lists → Answer Made
 backward_from q closed room l =
-    then (candidates q closed room true (back_seed q) (anchor_or q.first q.effective) l)
+    then (candidates q closed room true (back_seed q) (anchor_or q.first.day q.effective.day) l)
     (λ w. backward_end q closed room w.tries (back_seed q) w.lists)
 
 unfoldable pub backward : Request → List ℕ → ℕ → Answer Made
@@ -136,11 +136,11 @@ put_earlier false room day = given nothing
 unfoldable pub credit_opening : Request → (closed : List ℕ) (room day : ℕ) → Answer Lists
 credit_opening q closed room day =
     then (adjusted q.mask closed q.convention day) (λ a.
-    then (put_earlier (ltb q.effective a) room day) (put room day 1))
+    then (put_earlier (ltb q.effective.day a) room day) (put room day 1))
 
 unfoldable pub opening_by : Bool → Request → (closed : List ℕ) (room : ℕ) → Answer Lists
-opening_by true q closed room = then (previous_twentieth q.rule q.effective) (credit_opening q closed room)
-opening_by false q closed room = put room q.effective 1 nothing
+opening_by true q closed room = then (previous_twentieth q.rule q.effective.day) (credit_opening q closed room)
+opening_by false q closed room = put room q.effective.day 1 nothing
 
 unfoldable pub opening : Request → List ℕ → ℕ → Answer Lists
 opening q closed room = opening_by (is_credit q.rule) q closed room
@@ -162,7 +162,7 @@ put_seed room day mark l = then (put room day mark l) (λ m. given (record { lis
 unfoldable pub put_first : Request → List ℕ → ℕ → Lists → Answer Opened
 put_first q closed room l =
     need ROOM (has_room_in room l)
-    (then (tenor_on q closed (newest l)) (λ day. put_seed room q.first (pick_n (eqb day q.first) 1 0) l))
+    (then (tenor_on q closed (newest l)) (λ day. put_seed room q.first.day (pick_n (eqb day q.first.day) 1 0) l))
 
 -- OldCDS skips a twentieth under 30 natural days after the effective date
 unfoldable pub far_enough : Bool → Rule → ℕ → Answer ℕ
@@ -182,7 +182,7 @@ put_coming false q room day l = put_seed room day (pick_n (is_credit q.rule) 1 0
 
 unfoldable pub put_twentieth : Bool → Request → ℕ → Lists → Answer Opened
 put_twentieth true q room l =
-    then (coming_twentieth q.rule q.effective) (λ day. put_coming (eqb day q.effective) q room day l)
+    then (coming_twentieth q.rule q.effective.day) (λ day. put_coming (eqb day q.effective.day) q room day l)
 put_twentieth false q room l = given (record { lists = l; seed = newest l })
 
 unfoldable pub second : ℕ → Request → (closed : List ℕ) (room : ℕ) → Lists → Answer Opened
@@ -197,22 +197,22 @@ closing_day false rule day = given day
 unfoldable pub put_closing : Bool → Request → ℕ → Lists → Answer Lists
 put_closing true q room l = given l
 put_closing false q room l =
-    then (closing_day (on_twentieths q.rule) q.rule q.termination) (λ day.
+    then (closing_day (on_twentieths q.rule) q.rule q.termination.day) (λ day.
     put room day (pick_n (on_twentieths q.rule) 1 0) l)
 
 unfoldable pub closing : Request → List ℕ → ℕ → Lists → Answer Lists
 closing q closed room l =
     then (adjusted q.mask closed q.terminal (newest l)) (λ a.
-    then (adjusted q.mask closed q.terminal q.termination) (λ b.
+    then (adjusted q.mask closed q.terminal q.termination.day) (λ b.
     put_closing (eqb a b) q room l))
 
 unfoldable pub opened : Request → List ℕ → ℕ → Answer Opened
-opened q closed room = then (opening q closed room) (second q.first q closed room)
+opened q closed room = then (opening q closed room) (second q.first.day q closed room)
 
 -- the next-to-last date, if the loop ended at it, then termination
 unfoldable pub shut : Request → List ℕ → ℕ → Lists → Answer Lists
 shut q closed room l =
-    then (put_anchor q.mask closed q.convention room q.penultimate l) (closing q closed room)
+    then (put_anchor q.mask closed q.convention room q.penultimate.day l) (closing q closed room)
 
 abbrev pub made_forth : ℕ → ℕ → Lists → Made
 made_forth tries seed l = record { dates = reverse l.dates; flags = drop 1 (reverse l.marks); tries = tries; seed = seed }
@@ -222,7 +222,7 @@ forward_end q closed room tries seed l = then (shut q closed room l) (λ m. give
 
 unfoldable pub forward_from : Request → List ℕ → ℕ → Opened → Answer Made
 forward_from q closed room o =
-    then (candidates q closed room false o.seed (anchor_or q.penultimate q.termination) o.lists)
+    then (candidates q closed room false o.seed (anchor_or q.penultimate.day q.termination.day) o.lists)
     (λ w. forward_end q closed room w.tries o.seed w.lists)
 
 unfoldable pub forward : Request → List ℕ → ℕ → Answer Made

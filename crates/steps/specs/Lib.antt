@@ -1,4 +1,3 @@
-pub mod Asked
 pub mod Rules
 pub mod Laws
 pub mod Table

@@ -36,7 +36,7 @@ unfoldable pub anchor_ok : ℕ → Bool
 anchor_ok anchor = eqb anchor 0 || in_book anchor
 
 unfoldable pub dates_ok : Request → Bool
-dates_ok q = in_book q.effective && (in_book q.termination && (anchor_ok q.first && anchor_ok q.penultimate))
+dates_ok q = in_book q.effective.day && (in_book q.termination.day && (anchor_ok q.first.day && anchor_ok q.penultimate.day))
 
 -- ---- anchors: 6 and 9 belong to Backward and Forward, 7 and 10 to ThirdWednesday, 8 and 11 to the seven other rules
 unfoldable pub by_range : Rule → Bool
@@ -57,11 +57,11 @@ wrong_rule rule anchor = is_given anchor && not (by_range rule || by_imm rule)
 
 -- the first date: not after effective, or after termination
 unfoldable pub first_outside : Request → Bool
-first_outside q = leb q.first q.effective || ltb q.termination q.first
+first_outside q = leb q.first.day q.effective.day || ltb q.termination.day q.first.day
 
 -- the next-to-last date: not after effective, or not before termination
 unfoldable pub last_outside : Request → Bool
-last_outside q = leb q.penultimate q.effective || leb q.termination q.penultimate
+last_outside q = leb q.penultimate.day q.effective.day || leb q.termination.day q.penultimate.day
 
 -- end of month goes with Zero, Backward and Forward
 unfoldable pub monthend_allowed : Rule → Bool
@@ -89,10 +89,10 @@ anchor_rows rule anchor outside range imm wrong =
     ∷ []
 
 unfoldable pub first_rows : Request → Rule → List Row
-first_rows q rule = anchor_rows rule q.first (first_outside q) FIRST_DATE FIRST_NOT_IMM FIRST_WRONG_RULE
+first_rows q rule = anchor_rows rule q.first.day (first_outside q) FIRST_DATE FIRST_NOT_IMM FIRST_WRONG_RULE
 
 unfoldable pub last_rows : Request → Rule → List Row
-last_rows q rule = anchor_rows rule q.penultimate (last_outside q) LAST_DATE LAST_NOT_IMM LAST_WRONG_RULE
+last_rows q rule = anchor_rows rule q.penultimate.day (last_outside q) LAST_DATE LAST_NOT_IMM LAST_WRONG_RULE
 
 unfoldable pub rows_under : Request → Rule → List Row
 rows_under q rule =

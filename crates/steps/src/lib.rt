@@ -6,12 +6,12 @@ ghost use Rattle.refusal.specs.Answer.{answered};
 ghost use Rattle.steps.specs.Build.{refused_built};
 ghost use Rattle.steps.specs.Rules.{rule_of};
 ghost use Rattle.steps.specs.Twentieths.{next_twentieth_of, previous_twentieth_of};
+ghost use Rattle.date.specs.Date.{dated};
 
 use calendar::Convention;
 use date::Date;
 use period::{Period, Unit};
 use refusal::Refusal;
-use std::marker::Model;
 
 // The groups of rules, and the rule and the tenor in force.
 pub mod rules;
@@ -83,40 +83,6 @@ pub struct Request {
     pub mask: u8,
 }
 
-// Clauses see a request field by field, as record `Request` of specs, its dates as day numbers. The model is what lets a caller pass
-// one request again and again by value.
-impl Model for Request {
-    ghost use Rattle.steps.specs.Asked.{Request as Asked};
-
-    ghost Value = { Asked };
-
-    ghost view = { λ q. record {
-      effective = q.effective;
-      termination = q.termination;
-      tenor = q.tenor;
-      rule = q.rule;
-      convention = q.convention;
-      terminal = q.terminal;
-      monthend = q.monthend;
-      first = q.first;
-      penultimate = q.penultimate;
-      mask = q.mask;
-    } };
-
-    ghost inverse = { λ q. record {
-      effective = q.effective;
-      termination = q.termination;
-      tenor = q.tenor;
-      rule = q.rule;
-      convention = q.convention;
-      terminal = q.terminal;
-      monthend = q.monthend;
-      first = q.first;
-      penultimate = q.penultimate;
-      mask = q.mask;
-    } };
-}
-
 // A tenor as a count of days or of months. Not an enum: definition `candidate` and laws of walks name both fields.
 #[derive(Clone, Copy)]
 pub struct Pace {
@@ -186,7 +152,7 @@ pub fn refused(n: u8) -> Built
 
 // The first twentieth on or after the date, for the rules of IMM months that of March, June, September or December.
 pub fn next_twentieth(date: Date, rule: Rule) -> Result<Date, Refusal>
-    ensures { answered result ≡ next_twentieth_of rule date }
+    ensures { dated result ≡ next_twentieth_of rule date.day }
 {
     let day = date.booked()?;
     twentieths::next(day, rule)
@@ -194,7 +160,7 @@ pub fn next_twentieth(date: Date, rule: Rule) -> Result<Date, Refusal>
 
 // The last twentieth on or before the date, for the rules of IMM months that of March, June, September or December.
 pub fn previous_twentieth(date: Date, rule: Rule) -> Result<Date, Refusal>
-    ensures { answered result ≡ previous_twentieth_of rule date }
+    ensures { dated result ≡ previous_twentieth_of rule date.day }
 {
     let day = date.booked()?;
     twentieths::previous(day, rule)

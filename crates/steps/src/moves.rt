@@ -2,11 +2,11 @@
 #![tactic(auto, unfolding(calendar::specs::Adjust::convention_number, crate::specs::Inner::Same::same_convention, crate::specs::Finish::third_wednesday, crate::specs::Finish::unless, crate::specs::Finish::first_move, crate::specs::Finish::last_move, crate::specs::Finish::month_end_move, crate::specs::Finish::middle_move))]
 
 ghost use Rattle.std.specs.Prelude.{◌≡◌, true};
-ghost use Rattle.refusal.specs.Answer.{answered};
 ghost use Rattle.calendar.specs.Open.{closed_ok};
 ghost use Rattle.calendar.specs.Adjust.{convention_number};
 ghost use Rattle.steps.specs.Inner.Same.{same_convention};
 ghost use Rattle.steps.specs.Finish.{third_wednesday, moved, unless, first_move, last_move, month_end_move, middle_move};
+ghost use Rattle.date.specs.Date.{dated};
 
 use crate::{Move, Request, rules};
 use calendar::{Convention, month_ends, moves, search};
@@ -27,14 +27,14 @@ pub fn is_same(a: Convention, b: Convention) -> bool
 }
 
 pub fn third_wednesday(day: u32) -> Result<Date, Refusal>
-    ensures { answered result ≡ third_wednesday day }
+    ensures { dated result ≡ third_wednesday day }
 {
     let f = civil::fields_of(day);
     Date::nth_weekday(3, 3, f.month, f.year)
 }
 
 pub fn moved(day: u32, what: Move, mask: u8, closed: &[u32]) -> Result<Date, Refusal>
-    ensures { closed_ok closed.now ≡ true → answered result ≡ moved mask closed.now what day }
+    ensures { closed_ok closed.now ≡ true → dated result ≡ moved mask closed.now what day }
 {
     match what {
         Move::Stay => Ok(Date { day }),

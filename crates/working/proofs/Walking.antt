@@ -26,11 +26,11 @@ use Rattle.steps.specs.Candidates as steps
 use Rattle.steps.specs.Candidates.{candidate, is_past, unless_same, unless_past, turn_of}
 use Rattle.steps.specs.Generate.{Lists, Walk, newest, put, on_turn, last_try, walk}
 use Rattle.working.specs.declared.candidates.Turn.{Turn}
-use Rattle.working.specs.declared.candidates.Turn.TheVariants.{Past, Skip, Keep}
+use Rattle.working.specs.declared.candidates.Turn.TheVariants.{Past, Skip, Keep, Stop}
 use Rattle.working.specs.declared.walks.Walked.{Walked}
 use Rattle.working.specs.declared.Begin.{Begin}
 use Rattle.working.specs.declared.Tip.{Tip}
-use Rattle.working.specs.Step.{Gives, seen, Kept, gives, refuses, gives_as, gives_less, was_kept}
+use Rattle.working.specs.Step.{Gives, seen, gives, refuses, gives_as, gives_less, was_kept}
 use Rattle.working.specs.declared.Course.{Course}
 use Rattle.working.specs.declared.candidates.Known.{Known}
 use Rattle.working.specs.Part.{Work, Part, Begun, held, last_put, last_day, place_of, Filling, Fills, begun}
@@ -121,41 +121,41 @@ module _ {course : Course} {mask : ℕ} {closed : List ℕ} {convention : Conven
   stopped : (w' : Work) (paid' : List ℕ) (m : Refusal) → refused (number_of m) ≡ o → (r : Result Walked Refusal) → IsErr r × IsErrAnd r (λ k. k ≡ m) → Walking mask closed convention course.back room o r w' paid'
   stopped w' paid' m e r h = rw (handed_on r m h) (refuses (number_of m) e)
 
-  module _ (few : k ≤ SPAN_LAST) (r : Result Turn Refusal) (turned : closed_ok closed ≡ true → Knows mask closed convention known → Compared mask closed convention known.newest (turn_on course mask closed convention known.newest k) r) where
+  module _ (few : k ≤ SPAN_LAST) (r : Turn) (turned : closed_ok closed ≡ true → Knows mask closed convention known → Compared mask closed convention known.newest (turn_on course mask closed convention known.newest k) r) where
     t : Compared mask closed convention known.newest (turn_on course mask closed convention known.newest k) r
     t = turned g.begun.calendar g.knows
 
-    opened : then (seen told (answered r)) (λ t. on_turn room t k (held course.back n w) (walk (turn_on course mask closed convention) room (suc SPAN_LAST - suc k) (suc k))) ≡ o
+    opened : then (told r) (λ t. on_turn room t k (held course.back n w) (walk (turn_on course mask closed convention) room (suc SPAN_LAST - suc k) (suc k))) ≡ o
     unfolding walk
     opened =
         let a : suc SPAN_LAST - k ≡ suc (suc SPAN_LAST - suc k) = omega arith in
         let s = rw (a, ← g.at) at g.same in
         rw t.says s
 
-    pub walk_stop : (m : Refusal) → r ≡ Err m → (r' : Result Walked Refusal) → IsErr r' × IsErrAnd r' (λ j. j ≡ m) → Walking mask closed convention course.back room o r' w paid
-    unfolding seen then
-    walk_stop m e r' h = stopped w paid m (rw e at opened) r' h
+    pub walk_stop : (m : Refusal) → r ≡ Stop m → Walking mask closed convention course.back room o (Err m) w paid
+    unfolding told then
+    walk_stop m e = refuses (number_of m) (rw e at opened)
 
-    pub walk_past : (t : Turn) → r ≡ Ok t → t ≡ Past → Walking mask closed convention course.back room o (Ok (record { tip = record { n = n; start = start; front = known.front }; tries = k })) w paid
-    unfolding told seen then on_turn
-    walk_past t q e =
-        gives (record { tip = record { n = n; start = start; front = known.front }; tries = k }) (rw (q, e) at opened)
+    pub walk_past : r ≡ Past → Walking mask closed convention course.back room o (Ok (record { tip = record { n = n; start = start; front = known.front }; tries = k })) w paid
+    unfolding told then on_turn
+    walk_past e =
+        gives (record { tip = record { n = n; start = start; front = known.front }; tries = k }) (rw e at opened)
         (record { ahead = record { begun = g.begun; front = rw g.at at g.knows.front }; pays = g.pays })
 
-    pub walk_skip : (turn : Turn) → r ≡ Ok turn → (next : Known) → turn ≡ Skip next → Going course mask closed convention room start o w paid n (k + 1) next
-    unfolding told seen Kept then on_turn Learnt
-    walk_skip turn was next e =
-        let l : Kept (Learnt mask closed convention known.newest) (answered r) = t.learnt in
-        let q : Knows mask closed convention next × (next.newest ≡ known.newest) = rw (was, e) at l in
-        record { begun = g.begun; at = q.1 ∙ g.at; knows = q.0; pays = g.pays; same = rw (add-one k) (rw (was, e) at opened) }
+    pub walk_skip : (next : Known) → r ≡ Skip next → Going course mask closed convention room start o w paid n (k + 1) next
+    unfolding told then on_turn Learnt
+    walk_skip next e =
+        let l : Learnt mask closed convention known.newest r = t.learnt in
+        let q : Knows mask closed convention next × (next.newest ≡ known.newest) = rw e at l in
+        record { begun = g.begun; at = q.1 ∙ g.at; knows = q.0; pays = g.pays; same = rw (add-one k) (rw e at opened) }
 
-    module _ (turn : Turn) (was : r ≡ Ok turn) (next : Known) (e : turn ≡ Keep next) (f : Result ℕ Refusal) (w' : Work) (filled-so : Fills (Part room) course.back room (put room next.newest 1) n w f w') where
+    module _ (next : Known) (e : r ≡ Keep next) (f : Result ℕ Refusal) (w' : Work) (filled-so : Fills (Part room) course.back room (put room next.newest 1) n w f w') where
       p : Filling course.back room (put room next.newest 1 (held course.back n w)) f w'
       p = filled-so.run g.begun.part
 
       kept : then (seen (λ (m : ℕ). held course.back m w') (answered f)) (walk (turn_on course mask closed convention) room (suc SPAN_LAST - suc k) (suc k)) ≡ o
-      unfolding told seen then on_turn
-      kept = rw p.says (rw (was, e) at opened)
+      unfolding told then on_turn
+      kept = rw p.says (rw e at opened)
 
       pub walk_full : (m : Refusal) → f ≡ Err m → (paid' : List ℕ) (r' : Result Walked Refusal) → IsErr r' × IsErrAnd r' (λ j. j ≡ m) → Walking mask closed convention course.back room o r' w' paid'
       unfolding seen then
@@ -174,10 +174,10 @@ module _ {course : Course} {mask : ℕ} {closed : List ℕ} {convention : Conven
       put_days m q = put_dates room next.newest 1 (held course.back n w) (held course.back m w') (rw q at p.says)
 
       pub walk_keep : (m : ℕ) → f ≡ Ok m → (paid' : List ℕ) → (length paid ≡ 4096 → n < 4096 → paid' ≡ set paid (place_of course.back n) next.front) → Going course mask closed convention room start o w' paid' m (k + 1) next
-      unfolding seen Kept then Learnt
+      unfolding seen then Learnt
       walk_keep m q paid' set_so =
-          let l : Kept (Learnt mask closed convention known.newest) (answered r) = t.learnt in
-          let z : Knows mask closed convention next × (adjusted mask closed convention next.newest ≡ given next.front) = rw (was, e) at l in
+          let l : Learnt mask closed convention known.newest r = t.learnt in
+          let z : Knows mask closed convention next × (adjusted mask closed convention next.newest ≡ given next.front) = rw e at l in
           let h : answered f ≡ given m = rw q in
           let part = (was_kept p m h).part in
           let few : n < 4096 = omega (arith, counted m q, part) in

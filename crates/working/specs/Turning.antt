@@ -2,7 +2,8 @@
 -- Assumes nothing.
 use Rattle.std.specs.Prelude.{ℕ, ◌≤◌, ◌<◌, length, ◌≡◌, Bool, List, Result}
 use Rattle.refusal.specs.declared.Refusal.{Refusal}
-use Rattle.refusal.specs.Answer.{Answer, given, answered}
+use Rattle.refusal.specs.Refusals.{number_of}
+use Rattle.refusal.specs.Answer.{Answer, given, refused, answered}
 use Rattle.calendar.specs.declared.Convention.{Convention}
 use Rattle.calendar.specs.Adjust.{adjusted}
 use Rattle.calendar.specs.Inner.Near.{OneMonth}
@@ -10,11 +11,11 @@ use Rattle.steps.specs.Candidates as steps
 use Rattle.steps.specs.Inner.Sure.{Surely}
 use Rattle.steps.specs.Generate.{Lists, Walk, newest}
 use Rattle.working.specs.declared.candidates.Turn.{Turn}
-use Rattle.working.specs.declared.candidates.Turn.TheVariants.{Past, Skip, Keep}
+use Rattle.working.specs.declared.candidates.Turn.TheVariants.{Past, Skip, Keep, Stop}
 use Rattle.working.specs.declared.walks.Walked.{Walked}
 use Rattle.working.specs.declared.Begin.{Begin}
 use Rattle.working.specs.declared.Tip.{Tip}
-use Rattle.working.specs.Step.{Gives, Step, seen, Kept}
+use Rattle.working.specs.Step.{Gives, Step}
 use Rattle.working.specs.declared.Course.{Course}
 use Rattle.working.specs.declared.candidates.Known.{Known}
 use Rattle.working.specs.Part.{Work, Begun, held, last_day}
@@ -30,20 +31,22 @@ pub record Knows (mask : ℕ) (closed : List ℕ) (convention : Convention) (kno
   pub month : OneMonth known.near.from known.near.to
 
 -- ---- a turn
-unfoldable pub told : Turn → steps.Turn
-told Past = steps.past
-told (Skip next) = steps.skip
-told (Keep next) = steps.keep next.newest
+unfoldable pub told : Turn → Answer steps.Turn
+told Past = given steps.past
+told (Skip next) = given steps.skip
+told (Keep next) = given (steps.keep next.newest)
+told (Stop refusal) = refused (number_of refusal)
 
 -- what is known then; the newest date is the same where the candidate was skipped, and its adjusted date is known where it was kept
 unfoldable pub Learnt : ℕ → List ℕ → Convention → ℕ → Turn → Type 0
 Learnt mask closed convention newest Past = Unit {0}
 Learnt mask closed convention newest (Skip next) = Knows mask closed convention next × (next.newest ≡ newest)
 Learnt mask closed convention newest (Keep next) = Knows mask closed convention next × (adjusted mask closed convention next.newest ≡ given next.front)
+Learnt mask closed convention newest (Stop refusal) = Unit {0}
 
-pub record Compared (mask : ℕ) (closed : List ℕ) (convention : Convention) (newest : ℕ) (o : Answer steps.Turn) (r : Result Turn Refusal) : Type 0 where
-  pub says : seen told (answered r) ≡ o
-  pub learnt : Kept (Learnt mask closed convention newest) (answered r)
+pub record Compared (mask : ℕ) (closed : List ℕ) (convention : Convention) (newest : ℕ) (o : Answer steps.Turn) (r : Turn) : Type 0 where
+  pub says : told r ≡ o
+  pub learnt : Learnt mask closed convention newest r
 
 -- a turn of the candidates of a course
 abbrev pub turn_on : Course → ℕ → List ℕ → Convention → ℕ → ℕ → Answer steps.Turn

@@ -1,10 +1,10 @@
 // The candidates of a build: whole tenors before or after a fixed seed.
 ghost use Rattle.std.specs.Prelude.{◌≡◌, true, false};
-ghost use Rattle.refusal.specs.Answer.{answered};
 ghost use Rattle.calendar.specs.Open.{closed_ok};
 ghost use Rattle.steps.specs.Candidates.{candidate, is_past, unless_past};
 ghost use Rattle.working.specs.Turning.{Knows, Compared, turn_on};
 ghost use Rattle.working.specs.Paces.{pace};
+ghost use Rattle.date.specs.Date.{dated};
 
 use crate::{Adjusting, Course};
 use calendar::search;
@@ -22,12 +22,15 @@ pub(crate) struct Known {
     pub(crate) near: Near,
 }
 
-// What a candidate does: it ends the loop, is skipped, or is kept as the newest date. A turn that goes on tells what is then known.
+// What a candidate does: it ends the loop, is skipped, is kept as the newest date, or stops the build. A turn that goes on tells
+// what is then known. The refusal is a case of its own: with a `Result` round the others the compiler packs what is near into a word in
+// each turn, and 4,096 weekly dates take 15 in a hundred more instructions.
 #[derive(Clone, Copy)]
 pub(crate) enum Turn {
     Past,
     Skip(Known),
     Keep(Known),
+    Stop(Refusal),
 }
 
 // The tenor as a count of days or of months; a longer one than any that passes the checks counts as one of 1,200 units.
@@ -58,7 +61,7 @@ pub fn pace_of(tenor: Period) -> Pace
 
 // The k-th candidate. Nothing of the span lies further from a seed than a u32 counts.
 pub fn candidate(back: bool, pace: Pace, seed: Seed, k: u32) -> Result<Date, Refusal>
-    ensures { answered result ≡ candidate back pace seed k }
+    ensures { dated result ≡ candidate back pace seed k }
 {
     let n = k as u64 * pace.size as u64;
     if n > u32::MAX as u64 {
@@ -79,30 +82,38 @@ fn is_past(back: bool, exit: u32, day: u32) -> bool
 
 // What a candidate does that is not past the exit date. The known adjusted date is taken as it is, and not by a call like
 // `front_of`, whose answer would go through memory for each candidate.
-fn compare(day: u32, known: Known, adjusting: Adjusting, closed: &[u32]) -> Result<Turn, Refusal>
+fn compare(day: u32, known: Known, adjusting: Adjusting, closed: &[u32]) -> Turn
     ensures { closed_ok closed.now ≡ true → Knows adjusting.mask closed.now adjusting.convention known → Compared adjusting.mask closed.now adjusting.convention known.newest (unless_past false adjusting.mask closed.now adjusting.convention known.newest day) result }
 {
     let newest = known.newest;
     let mut held = known.front;
     if known.front == 0 {
-        held = adjusting.adjusted(newest, closed)?;
+        match adjusting.adjusted(newest, closed) {
+            Err(refusal) => return Turn::Stop(refusal),
+            Ok(a) => held = a,
+        }
     }
     let convention = adjusting.convention;
     let told = search::adjust_near(day, known.near, convention, adjusting.mask, closed);
     let near = told.near;
-    let front = told.moved?.date.day;
-    if held == front {
-        return Ok(Turn::Skip(Known {
-            newest,
-            front: held,
-            near,
-        }));
+    match told.moved {
+        Err(refusal) => Turn::Stop(refusal),
+        Ok(moved) => {
+            let front = moved.date.day;
+            if held == front {
+                return Turn::Skip(Known {
+                    newest,
+                    front: held,
+                    near,
+                });
+            }
+            Turn::Keep(Known {
+                newest: day,
+                front,
+                near,
+            })
+        }
     }
-    Ok(Turn::Keep(Known {
-        newest: day,
-        front,
-        near,
-    }))
 }
 
 // What the k-th candidate does.
@@ -112,12 +123,17 @@ pub(crate) fn try_candidate(
     closed: &[u32],
     known: Known,
     k: u32,
-) -> Result<Turn, Refusal>
+) -> Turn
     ensures { closed_ok closed.now ≡ true → Knows adjusting.mask closed.now adjusting.convention known → Compared adjusting.mask closed.now adjusting.convention known.newest (turn_on course adjusting.mask closed.now adjusting.convention known.newest k) result }
 {
-    let day = candidate(course.back, course.pace, course.seed, k)?.day;
-    if is_past(course.back, course.exit, day) {
-        return Ok(Turn::Past);
+    match candidate(course.back, course.pace, course.seed, k) {
+        Err(refusal) => Turn::Stop(refusal),
+        Ok(date) => {
+            let day = date.day;
+            if is_past(course.back, course.exit, day) {
+                return Turn::Past;
+            }
+            compare(day, known, adjusting, closed)
+        }
     }
-    compare(day, known, adjusting, closed)
 }

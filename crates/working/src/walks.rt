@@ -104,8 +104,11 @@ fn turns(
         near: Near::NOTHING,
     };
     for k in 1..=span::LAST {
-        let turn = candidates::try_candidate(course, way, closed, known, k)?;
+        let turn = candidates::try_candidate(course, way, closed, known, k);
         match turn {
+            Turn::Stop(refusal) => {
+                return Err(refusal);
+            }
             Turn::Past => {
                 return Ok(Walked {
                     tip: Tip {

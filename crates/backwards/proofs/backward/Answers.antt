@@ -8,10 +8,8 @@ use Rattle.backwards.proofs.backward.Goals as goal
 
 pub returns-in_err-n : goal.returns-in_err-n
 unfolding backward
-returns-in_err-n c = rw (← c.q.view_is, ← c.q-inside.view_is) (record { run = λ b. step_stops _ _ (step_as (begun_is _ _ _ (c.pace_of-pace.ensures ∙ pace_checked _ b.checked.tenor)) c.begin.ensures) _ c.in_err-n.was b.part _ c.from_residual.ensures })
+returns-in_err-n c = record { run = λ b. step_stops _ _ (step_as (begun_is _ _ _ (c.pace_of-pace.ensures ∙ pace_checked _ b.checked.tenor)) c.begin.ensures) _ c.in_err-n.was b.part _ c.from_residual.ensures }
 
 pub returns : goal.returns
 unfolding backward
-returns c =
-    let from = rw (← c.q.view_is, ← c.q-inside.view_is) at c.backward_from.ensures in
-    rw (← c.q.view_is, ← c.q-inside.view_is) (record { run = λ b. step_on _ _ (step_as (begun_is _ _ _ (c.pace_of-pace.ensures ∙ pace_checked _ b.checked.tenor)) c.begin.ensures) _ c.in_ok-n.was b.part (λ p. from.run (c.pace_of-pace.ensures ∙ pace_checked _ b.checked.tenor, (begun b.checked.calendar p, b.paid_size))) })
+returns c = record { run = λ b. step_on _ _ (step_as (begun_is _ _ _ (c.pace_of-pace.ensures ∙ pace_checked _ b.checked.tenor)) c.begin.ensures) _ c.in_ok-n.was b.part (λ p. c.backward_from.ensures.run (c.pace_of-pace.ensures ∙ pace_checked _ b.checked.tenor, (begun b.checked.calendar p, b.paid_size))) }

@@ -6,7 +6,7 @@ use Rattle.calendar.specs.declared.search.Near.{Near}
 use Rattle.calendar.specs.declared.search.Placed.{Placed}
 use Rattle.calendar.specs.declared.search.Told.{Told}
 use Rattle.calendar.specs.Adjust.{same_month, adjusted}
-use Rattle.calendar.specs.Moves.{moved_from}
+use Rattle.calendar.specs.Moves.{moved, moved_from}
 use Rattle.calendar.specs.Inner.Reach.{UpTo}
 use Rattle.refusal.specs.Answer.{Answer, given, answered, then}
 use Rattle.refusal.specs.declared.Refusal.{Refusal}
@@ -31,10 +31,10 @@ pub record Adjusts (mask : ℕ) (closed : List ℕ) (convention : Convention) (d
 
 -- the move of what was found, and what is known beside it or was before
 pub record Measured (day : ℕ) (found : Result Placed Refusal) (near : Near) (r : Told) : Type 0 where
-  pub says : UpTo day (placed found) → answered r.moved ≡ moved_from (given day) (placed found)
+  pub says : UpTo day (placed found) → moved r.moved ≡ moved_from (given day) (placed found)
   pub known : Known found → OneMonth near.from near.to → OneMonth r.near.from r.near.to
 
 -- an adjustment, and what is known beside it
 pub record Tells (mask : ℕ) (closed : List ℕ) (convention : Convention) (day : ℕ) (r : Told) : Type 0 where
-  pub says : answered r.moved ≡ moved_from (given day) (adjusted mask closed convention day)
+  pub says : moved r.moved ≡ moved_from (given day) (adjusted mask closed convention day)
   pub known : OneMonth r.near.from r.near.to

@@ -5,12 +5,13 @@ use Rattle.std.proofs.Math.Path.{refl, sym}
 use Rattle.std.proofs.Common.{ap, ◌∙◌, arith, leb-true}
 use Rattle.std.proofs.Math.Bool.{true, false}
 use Rattle.std.proofs.lemmas.Bool.{not-false}
-use Rattle.refusal.specs.Answer.{Answer, given, refused, answered, need, then, BOOK}
+use Rattle.refusal.specs.Answer.{Answer, given, refused, need, then, BOOK}
 use Rattle.refusal.specs.Laws.Answers.{holds, need_given, then_given, then_refused, then_stepped, never_both, one_given, both}
 use Rattle.std.specs.Prelude.{Result, Ok, Err}
 use Rattle.refusal.specs.declared.Refusal.{Refusal}
 use Rattle.refusal.specs.Refusals.{number_of}
-use Rattle.date.specs.Date.{SPAN_FIRST, SPAN_LAST, within_span}
+use Rattle.date.specs.declared.Date.{Date}
+use Rattle.date.specs.Date.{SPAN_FIRST, SPAN_LAST, dated, within_span}
 use Rattle.date.specs.Laws.Made.{given_day, refused_day}
 use Rattle.calendar.specs.declared.Convention.TheVariants.{Following}
 use Rattle.calendar.specs.AnyCalendar.{in_span, first_open, found, same_month, unless_left, modified, by_convention, adjusted}
@@ -61,30 +62,30 @@ unfolding adjusted by_convention
 following_one opens day new h = found_one opens false day new (need_given BOOK (in_span day) _ new h).1
 
 -- ---- a search in either direction, and the modified ones
-module _ (opens : ℕ → Bool) (back : Bool) (day : ℕ) (first : Result ℕ Refusal) where
-  pub look_day : (x : ℕ) (r : Answer ℕ) (t : Bool) → t ≡ in_span day → not t ≡ false → answered first ≡ first_open opens back 31 day → first ≡ Ok x → r ≡ within_span x → r ≡ need BOOK (in_span day) (found opens back day)
+module _ (opens : ℕ → Bool) (back : Bool) (day : ℕ) (first : Result Date Refusal) where
+  pub look_day : (x : Date) (r : Answer ℕ) (t : Bool) → t ≡ in_span day → not t ≡ false → dated first ≡ first_open opens back 31 day → first ≡ Ok x → r ≡ within_span x.day → r ≡ need BOOK (in_span day) (found opens back day)
   unfolding found
-  look_day x r t p e h q w = cleared _ _ _ _ _ p e (then_given _ x _ _ (given_day first x _ h q) w)
+  look_day x r t p e h q w = cleared _ _ _ _ _ p e (then_given _ x.day _ _ (given_day first x _ h q) w)
 
-  pub look_refused : (n : Refusal) (t : Bool) → t ≡ in_span day → not t ≡ false → answered first ≡ first_open opens back 31 day → first ≡ Err n → refused (number_of n) ≡ need BOOK (in_span day) (found opens back day)
+  pub look_refused : (n : Refusal) (t : Bool) → t ≡ in_span day → not t ≡ false → dated first ≡ first_open opens back 31 day → first ≡ Err n → refused (number_of n) ≡ need BOOK (in_span day) (found opens back day)
   unfolding found
   look_refused n t p e h q = cleared _ _ _ _ _ p e (then_refused _ (number_of n) _ (refused_day first n _ h q))
 
-  module _ (h : answered first ≡ need BOOK (in_span day) (found opens back day)) where
-    pub modified_kept : (x : ℕ) (s : Bool) → first ≡ Ok x → (1 ≤ day → 1 ≤ x → s ≡ same_month day x) → s ≡ true → given x ≡ need BOOK (in_span day) (modified opens back day)
+  module _ (h : dated first ≡ need BOOK (in_span day) (found opens back day)) where
+    pub modified_kept : (x : Date) (s : Bool) → first ≡ Ok x → (1 ≤ day → 1 ≤ x.day → s ≡ same_month day x.day) → s ≡ true → given x.day ≡ need BOOK (in_span day) (modified opens back day)
     unfolding modified unless_left
     modified_kept x s q p e =
-        let g = need_given BOOK _ _ x (given_day first x _ h q) in
-        let m = p (span_one day g.0) (found_one opens back day x g.1) in
-        holds BOOK _ _ _ g.0 (then_given _ x _ _ g.1 (rw (sym m ∙ e)))
+        let g = need_given BOOK _ _ x.day (given_day first x _ h q) in
+        let m = p (span_one day g.0) (found_one opens back day x.day g.1) in
+        holds BOOK _ _ _ g.0 (then_given _ x.day _ _ g.1 (rw (sym m ∙ e)))
 
-    pub modified_left : (x : ℕ) (s : Bool) (r : Answer ℕ) → first ≡ Ok x → (1 ≤ day → 1 ≤ x → s ≡ same_month day x) → s ≡ false → r ≡ need BOOK (in_span day) (found opens (not back) day) → r ≡ need BOOK (in_span day) (modified opens back day)
+    pub modified_left : (x : Date) (s : Bool) (r : Answer ℕ) → first ≡ Ok x → (1 ≤ day → 1 ≤ x.day → s ≡ same_month day x.day) → s ≡ false → r ≡ need BOOK (in_span day) (found opens (not back) day) → r ≡ need BOOK (in_span day) (modified opens back day)
     unfolding modified unless_left need
     modified_left x s r q p e z =
-        let g = need_given BOOK (in_span day) _ x (given_day first x _ h q) in
-        let m = p (span_one day g.0) (found_one opens back day x g.1) in
+        let g = need_given BOOK (in_span day) _ x.day (given_day first x _ h q) in
+        let m = p (span_one day g.0) (found_one opens back day x.day g.1) in
         let other : r ≡ found opens (not back) day = rw g.0 at z in
-        holds BOOK _ _ _ g.0 (then_given _ x _ _ g.1 (rw (sym m ∙ e) other))
+        holds BOOK _ _ _ g.0 (then_given _ x.day _ _ g.1 (rw (sym m ∙ e) other))
 
     pub modified_refused : (n : Refusal) → first ≡ Err n → refused (number_of n) ≡ need BOOK (in_span day) (modified opens back day)
     unfolding modified

@@ -4,11 +4,12 @@ use Rattle.std.specs.Prelude.{ℕ, ◌≡◌, Bool, not, ℤ}
 use Rattle.std.proofs.Math.Path.{refl, sym}
 use Rattle.std.proofs.Common.{ap, ◌∙◌}
 use Rattle.std.proofs.Math.Bool.{true, false}
-use Rattle.refusal.specs.Answer.{Answer, given, refused, answered, need, then}
+use Rattle.refusal.specs.Answer.{Answer, given, refused, need, then}
 use Rattle.std.specs.Prelude.{Result, Ok, Err}
 use Rattle.refusal.specs.declared.Refusal.{Refusal}
 use Rattle.refusal.specs.Refusals.{number_of}
-use Rattle.calendar.specs.Moves.{moved_from, date_of}
+use Rattle.calendar.specs.declared.Moved.{Moved}
+use Rattle.calendar.specs.Moves.{moved, moved_from, date_of}
 use Rattle.calendar.specs.Laws.Guards.{barred, cleared}
 
 module _ (base : Answer ℕ) where
@@ -48,10 +49,10 @@ pub took : (base : ℕ) (date a : Answer ℕ) (m : Answer (ℕ × ℤ)) → a �
 took base date a m e h = e ∙ ap date_of h ∙ given_date base date
 
 -- by the case that it was
-module _ (base : ℕ) (date : Answer ℕ) (m : Result (ℕ × ℤ) Refusal) (h : answered m ≡ moved_from (given base) date) where
-  pub moved_day : (d : ℕ) (days : ℤ) → m ≡ Ok (d, days) → date ≡ given d
+module _ (base : ℕ) (date : Answer ℕ) (m : Result Moved Refusal) (h : moved m ≡ moved_from (given base) date) where
+  pub moved_day : (x : Moved) → m ≡ Ok x → date ≡ given x.date.day
   unfolding date_of
-  moved_day d days e = sym (given_date base date) ∙ sym (ap date_of h) ∙ rw e refl
+  moved_day x e = sym (given_date base date) ∙ sym (ap date_of h) ∙ rw e refl
 
   pub moved_refused : (n : Refusal) → m ≡ Err n → date ≡ refused (number_of n)
   unfolding date_of

@@ -17,42 +17,33 @@ returns-then-not-dates_ok c =
 pub returns-in_err-check : goal.returns-in_err-check
 unfolding input_rows
 returns-in_err-check c =
-    let dates = rw (← c.q.view_is) at c.dates_ok.ensures in
-    rw (← c.q.view_is)
-    (row_passed _ _ _ _ (differ_passed _ _ c.if-dates-flags.false)
-    (row_passed _ _ _ _ (fault_passed _ _ dates c.if-not-dates_ok.false)
-    (calendar_handed c.check.result _ _ c.check.ensures.value _ _ _ c.from_residual.ensures c.in_err-check.was)))
+    row_passed _ _ _ _ (differ_passed _ _ c.if-dates-flags.false)
+    (row_passed _ _ _ _ (fault_passed _ _ c.dates_ok.ensures c.if-not-dates_ok.false)
+    (calendar_handed c.check.result _ _ c.check.ensures.value _ _ _ c.from_residual.ensures c.in_err-check.was))
 
 pub returns-then-is_negative : goal.returns-then-is_negative
 unfolding input_rows number
 returns-then-is_negative c =
-    let dates = rw (← c.q.view_is) at c.dates_ok.ensures in
-    rw (← c.q.view_is)
-    (row_passed _ _ _ _ (differ_passed _ _ c.if-dates-flags.false)
-    (row_passed _ _ _ _ (fault_passed _ _ dates c.if-not-dates_ok.false)
+    row_passed _ _ _ _ (differ_passed _ _ c.if-dates-flags.false)
+    (row_passed _ _ _ _ (fault_passed _ _ c.dates_ok.ensures c.if-not-dates_ok.false)
     (calendar_step c.check.result _ _ c.check.ensures.value _ _ c.in_ok-check.was
-    (row_holds _ _ _ (test_holds _ _ c.is_negative.ensures c.if-is_negative.true)))))
+    (row_holds _ _ _ (test_holds _ _ c.is_negative.ensures c.if-is_negative.true))))
 
 pub returns-then-not-is_short : goal.returns-then-not-is_short
 unfolding input_rows number
 returns-then-not-is_short c =
-    let dates = rw (← c.q.view_is) at c.dates_ok.ensures in
-    rw (← c.q.view_is)
-    (row_passed _ _ _ _ (differ_passed _ _ c.if-dates-flags.false)
-    (row_passed _ _ _ _ (fault_passed _ _ dates c.if-not-dates_ok.false)
+    row_passed _ _ _ _ (differ_passed _ _ c.if-dates-flags.false)
+    (row_passed _ _ _ _ (fault_passed _ _ c.dates_ok.ensures c.if-not-dates_ok.false)
     (calendar_step c.check.result _ _ c.check.ensures.value _ _ c.in_ok-check.was
     (row_passed _ _ _ _ (test_passed _ _ c.is_negative.ensures c.if-is_negative.false)
-    (row_holds _ _ _ (fault_holds _ _ c.is_short.ensures c.if-not-is_short.true))))))
+    (row_holds _ _ _ (fault_holds _ _ c.is_short.ensures c.if-not-is_short.true)))))
 
 pub returns : goal.returns
 unfolding input_rows
 returns c =
-    let dates = rw (← c.q.view_is) at c.dates_ok.ensures in
-    let under = rw (← c.q.view_is) at c.check_under.ensures in
-    rw (← c.q.view_is)
-    (row_passed _ _ _ _ (differ_passed _ _ c.if-dates-flags.false)
-    (row_passed _ _ _ _ (fault_passed _ _ dates c.if-not-dates_ok.false)
+    row_passed _ _ _ _ (differ_passed _ _ c.if-dates-flags.false)
+    (row_passed _ _ _ _ (fault_passed _ _ c.dates_ok.ensures c.if-not-dates_ok.false)
     (calendar_step c.check.result _ _ c.check.ensures.value _ _ c.in_ok-check.was
     (row_passed _ _ _ _ (test_passed _ _ c.is_negative.ensures c.if-is_negative.false)
     (row_passed _ _ _ _ (fault_passed _ _ c.is_short.ensures c.if-not-is_short.false)
-    (under_rule _ _ _ c.rule_in_force.ensures under))))))
+    (under_rule _ _ _ c.rule_in_force.ensures c.check_under.ensures)))))

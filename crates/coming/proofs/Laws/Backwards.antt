@@ -37,10 +37,10 @@ module _
     (ds : List ℕ) (o : Owed q ds) (m : ℕ) (w : Most q m) (s : Schedule) (a : Accepted q ds m s) (x : ℕ)
   where
     abbrev e : ℕ
-    e = q.effective
+    e = q.effective.day
 
     abbrev t : ℕ
-    t = q.termination
+    t = q.termination.day
 
     abbrev j : ℕ
     j = m / tenor_count q
@@ -206,8 +206,8 @@ shown_backward q closed dates flags p c x =
           (λ h i. coming_next q closed dates flags p c o.0 o.1 m.0 m.1 r.0 r.2 x h i _ (most h i)),
     )
   where
-    next_booked : q.effective ≤ x → x < q.termination → in_book (x + 1) ≡ true
-    next_booked h i = rw (le-leb 693961 (x + 1) (omega (arith, book_from q.effective c.effective_in_book)), le-leb (x + 1) 803168 (omega (arith, book_le q.termination c.termination_in_book))) refl
+    next_booked : q.effective.day ≤ x → x < q.termination.day → in_book (x + 1) ≡ true
+    next_booked h i = rw (le-leb 693961 (x + 1) (omega (arith, book_from q.effective.day c.effective_in_book)), le-leb (x + 1) 803168 (omega (arith, book_le q.termination.day c.termination_in_book))) refl
 
-    most : q.effective ≤ x → x < q.termination → MostOf (taken q) (x + 1) (most_by q.tenor.unit (x + 1) q.termination)
-    most h i = most_by_lem (x + 1) q.termination (next_booked h i) (omega arith) c.termination_in_book q.tenor.unit
+    most : q.effective.day ≤ x → x < q.termination.day → MostOf (taken q) (x + 1) (most_by q.tenor.unit (x + 1) q.termination.day)
+    most h i = most_by_lem (x + 1) q.termination.day (next_booked h i) (omega arith) c.termination_in_book q.tenor.unit

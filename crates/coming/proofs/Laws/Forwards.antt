@@ -42,10 +42,10 @@ module _
     (ds : List ℕ) (o : OwedOn q ds) (m : ℕ) (w : MostOn q m) (s : Schedule) (a : AcceptedOn q ds m s) (x : ℕ)
   where
     abbrev e : ℕ
-    e = q.effective
+    e = q.effective.day
 
     abbrev t : ℕ
-    t = q.termination
+    t = q.termination.day
 
     abbrev j : ℕ
     j = m / tenor_count q
@@ -200,7 +200,7 @@ shown_forward q closed dates flags p c x b =
       by_cases q r.0 x _
           (λ h. coming_first q closed dates flags p c o.0 o.1 m.0 m.1 r.0 r.2 x h)
           (λ h. coming_none q closed dates flags p c o.0 o.1 m.0 m.1 r.0 r.2 x h)
-          (λ h i. coming_next q closed dates flags p c o.0 o.1 m.0 m.1 r.0 r.2 x h i _ (most_on_sum q.effective x c.effective_in_book h b q.tenor.unit)),
+          (λ h i. coming_next q closed dates flags p c o.0 o.1 m.0 m.1 r.0 r.2 x h i _ (most_on_sum q.effective.day x c.effective_in_book h b q.tenor.unit)),
     )
 
 -- ---- from termination back: Backwards

@@ -15,14 +15,14 @@ is_early n = not (eqb n 0) && leb n TENOR
 -- the rows that are left of a request that is answered, where the asked day lies in the book
 unfoldable pub left_rows : Request → List ℕ → List Row
 left_rows q closed =
-    row BOOK (not (in_book q.effective))
-    ∷ row BOOK (not (in_book q.termination))
+    row BOOK (not (in_book q.effective.day))
+    ∷ row BOOK (not (in_book q.termination.day))
     ∷ row CALENDAR (not (calendar_ok q.mask closed))
     ∷ row TENOR (not (tenor_ok (nat_abs q.tenor.length) q.tenor.unit))
     ∷ []
 
 pub record Passed (q : Request) (x : ℕ) : Type 0 where
   pub tenor : tenor_ok (nat_abs q.tenor.length) q.tenor.unit ≡ true
-  pub effective : in_book q.effective ≡ true
-  pub termination : in_book q.termination ≡ true
+  pub effective : in_book q.effective.day ≡ true
+  pub termination : in_book q.termination.day ≡ true
   pub asked : in_book x ≡ true

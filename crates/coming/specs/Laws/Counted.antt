@@ -81,22 +81,22 @@ module _ (q : Request) (x : ℕ) where
   abbrev u : TimeUnit
   u = q.tenor.unit
 
-  pub behind_is : behind_of (pace_of q.tenor) (seed_of false q.termination) q.effective x ≡ comes_backward q x
+  pub behind_is : behind_of (pace_of q.tenor) (seed_of false q.termination.day) q.effective.day x ≡ comes_backward q x
   unfolding behind_of comes_backward pace_of
   behind_is =
-      let t = q.termination in
+      let t = q.termination.day in
       let k : most_from true (pace_by n u).monthly (seed_of false t) (x + 1) / (pace_by n u).size ≡ tenors_kept q x = λ i. most_back n u t (x + 1) i / size_is n u i in
       let a : candidate true (pace_by n u) (seed_of false t) _ ≡ tenors_before q (tenors_kept q x) = ap (λ (z : ℕ). candidate true (pace_by n u) (seed_of false t) z) k ∙ candidate_by_tenors true n u t (tenors_kept q x) in
       let b : candidate true (pace_by n u) (seed_of false t) _ ≡ tenors_before q (suc (tenors_kept q x)) = ap (λ (z : ℕ). candidate true (pace_by n u) (seed_of false t) (suc z)) k ∙ candidate_by_tenors true n u t (suc (tenors_kept q x)) in
-      λ i. comes (day_or (a i)) (flag_by (b i) q.effective)
+      λ i. comes (day_or (a i)) (flag_by (b i) q.effective.day)
 
-  pub ahead_is : ahead_of (pace_of q.tenor) (seed_of false q.effective) q.termination x ≡ comes_forward q x
+  pub ahead_is : ahead_of (pace_of q.tenor) (seed_of false q.effective.day) q.termination.day x ≡ comes_forward q x
   unfolding ahead_of comes_forward pace_of
   ahead_is =
-      let e = q.effective in
+      let e = q.effective.day in
       let k : most_from false (pace_by n u).monthly (seed_of false e) x / (pace_by n u).size ≡ most_on_by u e x / tenor_count q = λ i. most_on n u e x i / size_is n u i in
       let a : candidate false (pace_by n u) (seed_of false e) _ ≡ tenors_after q (suc (most_on_by u e x / tenor_count q)) = ap (λ (z : ℕ). candidate false (pace_by n u) (seed_of false e) (suc z)) k ∙ candidate_by_tenors false n u e (suc (most_on_by u e x / tenor_count q)) in
-      λ i. on_or (a i) q.termination
+      λ i. on_or (a i) q.termination.day
 
 -- ---- how far a count goes: a seed and a day of the book
 pub record Booked (seed : Seed) (x : ℕ) : Type 0 where

@@ -62,8 +62,8 @@ unfolding asked_rows dates_ok
 answerable q closed x h =
     let f = fails h in
     let b = both (in_book x) (dates_ok q) (not-false _ f.0) in
-    let e = both (in_book q.effective) _ b.1 in
-    let t = both (in_book q.termination) _ e.1 in
+    let e = both (in_book q.effective.day) _ b.1 in
+    let t = both (in_book q.termination.day) _ e.1 in
     record {
       day_in_book = b.0;
       passes = record {

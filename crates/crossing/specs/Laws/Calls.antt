@@ -1,19 +1,24 @@
 -- An answer in one number that a call gave, handed on; one law for each way.
 -- Assumes nothing.
-use Rattle.std.specs.Prelude.{ℕ, zero, suc, ◌<◌, ◌≡◌, List, Result, Ok, Err, ℤ, pos, neg_ℤ, ◌-ℤ◌}
+use Rattle.std.specs.Prelude.{ℕ, zero, suc, ◌<◌, ◌≡◌, Bool, true, false, List, Result, Ok, Err, ℤ, pos, neg_ℤ, ◌-ℤ◌}
 use Rattle.std.proofs.Math.Path.{ap, refl}
 use Rattle.std.proofs.Common.{◌∙◌, arith, Fits, SFits, to_z, of_z, to_z-of_z}
 use Rattle.std.proofs.Math.IntN.{+ℤ_idl}
 use Rattle.std.specs.Int.Signed.{mag}
 use Rattle.std.specs.Int.{w8, w32, w64}
 use Rattle.std.proofs.Math.Facts.{to_z_pos}
-use Rattle.refusal.specs.Answer.{Answer, given, refused, answered, then}
+use Rattle.refusal.specs.Answer.{Answer, given, refused, answered, answered_by, need, then, ROOM}
 use Rattle.refusal.specs.declared.Refusal.{Refusal}
+use Rattle.refusal.specs.Refusals.{number_of}
 use Rattle.refusal.specs.Laws.Answers.{then_given, then_refused}
 use Rattle.period.specs.Laws.Signed.{same32}
+use Rattle.calendar.specs.declared.Moved.{Moved}
+use Rattle.calendar.specs.Moves.{moved, moved_by}
+use Rattle.date.specs.declared.Date.{Date}
+use Rattle.date.specs.Date.{dated_by}
 use Rattle.coming.specs.declared.Coming.{Coming}
 use Rattle.coming.specs.Coming.{said, meant}
-use Rattle.crossing.specs.Answers.{one_number_of, marked}
+use Rattle.crossing.specs.Answers.{one_number_of, itself, marked, with_place, placed, CountPlace, MovePlace}
 use Rattle.crossing.specs.Names.{name_of, Spelled}
 
 pub handed : (r : ℤ) {x : ℤ} → mag r < 9223372036854775808 → r ≡ x → to_z w64 (of_z w64 r) ≡ x
@@ -62,6 +67,35 @@ pub coming_number : (d : Result Coming Refusal) → one_number_of (λ c. marked 
 unfolding meant
 coming_number (Ok c) = refl
 coming_number (Err r) = refl
+
+-- ---- a date as its day number, and a move as its day number beside its days, of any refusal that has a number
+module _ {E : Type 0} (number : E → ℕ) where
+  pub date_number : (d : Result Date E) → one_number_of (λ d. d.day) (answered_by number d) ≡ one_number_of itself (dated_by number d)
+  date_number (Ok d) = refl
+  date_number (Err e) = refl
+
+  move_number : (n : ℕ) (t : Bool) (d : Result Moved E) → one_number_of (λ m. m.date.day) (need n t (answered_by number d)) ≡ one_number_of (λ m. m.0) (need n t (moved_by number d))
+  unfolding need
+  move_number n true (Ok m) = refl
+  move_number n true (Err e) = refl
+  move_number n false d = refl
+
+  move_placed : (list : List ℤ) (n : ℕ) (t : Bool) (d : Result Moved E) → placed (λ m. m.days) (need n t (answered_by number d)) list ≡ placed (λ m. m.1) (need n t (moved_by number d)) list
+  unfolding need placed
+  move_placed list n true (Ok m) = refl
+  move_placed list n true (Err e) = refl
+  move_placed list n false d = refl
+
+  pub move_by : {r : ℤ} {list list' : List ℤ} (d : Result Moved E) → CountPlace (λ m. m.date.day) (λ m. m.days) (answered_by number d) r list list' → MovePlace (moved_by number d) r list list'
+  unfolding with_place
+  move_by {list = list} d p =
+      record {
+        answer = p.answer ∙ move_number ROOM _ d;
+        list_after_lem = p.list_after_lem ∙ move_placed list ROOM _ d;
+      }
+
+pub move_as : {r : ℤ} {list list' : List ℤ} (d : Result Moved Refusal) → CountPlace (λ m. m.date.day) (λ m. m.days) (answered d) r list list' → MovePlace (moved d) r list list'
+move_as d p = move_by number_of d p
 
 -- ---- what was written of an answer's name
 pub same_name : (z : ℤ) → SFits w64 z → name_of (to_z w64 (of_z w64 z)) ≡ name_of z

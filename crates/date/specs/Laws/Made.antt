@@ -1,23 +1,35 @@
 -- Laws of answers that are days, and of `make_of`: what each test refuses, and what an answer that is a day tells.
 -- Assumes nothing.
-use Rattle.std.specs.Prelude.{ℕ, Result, Ok, Err, suc, ◌+◌, ◌-◌, ◌≤◌, ◌<◌, ◌≡◌, refl, leb}
-use Rattle.std.proofs.Common.{ap, arith}
+use Rattle.std.specs.Prelude.{ℕ, Result, Ok, Err, suc, ◌+◌, ◌-◌, ◌≤◌, ◌<◌, ◌≡◌, refl, leb, IsErr, IsErrAnd}
+use Rattle.std.proofs.Common.{ap, ◌∙◌, sym, arith}
 use borrow.Author.Tests.{le-leb, lt-leb, leb-true}
-use Rattle.refusal.specs.Answer.{Answer, given, refused, answered, need, BOOK}
-use Rattle.refusal.specs.Laws.Answers.{fails, after, need_given, was_given, was_refused}
+use Rattle.refusal.specs.Answer.{Answer, given, refused, need, BOOK}
+use Rattle.refusal.specs.Laws.Answers.{fails, after, need_given, handed, same_number}
 use Rattle.refusal.specs.declared.Refusal.{Refusal}
 use Rattle.refusal.specs.Refusals.{number_of}
+use Rattle.date.specs.declared.Date.{Date}
 use Rattle.date.specs.Civil.{pick_n, leap, row_of, gone, sum_to, day_number, month_length}
-use Rattle.date.specs.Date.{SPAN_FIRST, SPAN_LAST, make_of}
+use Rattle.date.specs.Date.{SPAN_FIRST, SPAN_LAST, dated, make_of}
 use Rattle.date.specs.Laws.Years.{gone_suc, gone_le}
 use Rattle.date.specs.Laws.Round.{Valid, day_in_year}
 
 -- what a call gave, by the case that it was
-pub given_day : (d : Result ℕ Refusal) (x : ℕ) (a : Answer ℕ) → answered d ≡ a → d ≡ Ok x → a ≡ given x
-given_day = was_given
+pub given_day : (d : Result Date Refusal) (x : Date) (a : Answer ℕ) → dated d ≡ a → d ≡ Ok x → a ≡ given x.day
+given_day d x a h e = sym h ∙ rw e
 
-pub refused_day : (d : Result ℕ Refusal) (r : Refusal) (a : Answer ℕ) → answered d ≡ a → d ≡ Err r → a ≡ refused (number_of r)
-refused_day = was_refused
+pub refused_day : (d : Result Date Refusal) (r : Refusal) (a : Answer ℕ) → dated d ≡ a → d ≡ Err r → a ≡ refused (number_of r)
+refused_day d r a h e = sym h ∙ rw e
+
+-- what `?` hands on of a call that gives a date
+pub day_handed_on : (d : Result Date Refusal) (r : Refusal) → IsErr d × IsErrAnd d (λ k. k ≡ r) → dated d ≡ refused (number_of r)
+day_handed_on d r h = ap dated (handed d r h)
+
+-- two answers of the code that say the same are the same
+pub same_dated : (d e : Result Date Refusal) → dated d ≡ dated e → d ≡ e
+same_dated (Ok x) (Ok y) h = ap (λ (n : ℕ). Ok (record { day = n })) (let q : x.day ≡ y.day = cc in q)
+same_dated (Ok x) (Err r) h = let z : ◌≡◌ {A = ℕ} 0 1 = cc in let bad : ⊥ = omega arith in absurd bad
+same_dated (Err r) (Ok y) h = let z : ◌≡◌ {A = ℕ} 0 1 = cc in let bad : ⊥ = omega arith in absurd bad
+same_dated (Err r) (Err s) h = ap Err (same_number r s (let q : number_of r ≡ number_of s = cc in q))
 
 module _ (y m d : ℕ) where
   pub make_early : y < 1800 → refused BOOK ≡ make_of y m d

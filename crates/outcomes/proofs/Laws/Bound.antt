@@ -44,8 +44,8 @@ module _ (room : ℕ) where
 
 -- ---- where a build enters its loop: the direction, the seed, the exit date, and the dates put so far
 pub data Enters (q : Request) (closed : List ℕ) (room : ℕ) : Bool → ℕ → ℕ → Lists → Type 0 where
-  backwards : (l : Lists) → is_zero (rule_in_force q) ≡ false → is_backward (rule_in_force q) ≡ true → begun q room ≡ given l → Enters q closed room true (back_seed q) (anchor_or q.first q.effective) l
-  forwards : (o : Opened) → is_zero (rule_in_force q) ≡ false → is_backward (rule_in_force q) ≡ false → opened q closed room ≡ given o → Enters q closed room false o.seed (anchor_or q.penultimate q.termination) o.lists
+  backwards : (l : Lists) → is_zero (rule_in_force q) ≡ false → is_backward (rule_in_force q) ≡ true → begun q room ≡ given l → Enters q closed room true (back_seed q) (anchor_or q.first.day q.effective.day) l
+  forwards : (o : Opened) → is_zero (rule_in_force q) ≡ false → is_backward (rule_in_force q) ≡ false → opened q closed room ≡ given o → Enters q closed room false o.seed (anchor_or q.penultimate.day q.termination.day) o.lists
 
 -- as `candidates`, which looks at 876,216 of them, with as many as that
 unfoldable pub candidates_in : ℕ → Request → List ℕ → ℕ → Bool → ℕ → ℕ → Lists → Answer Walk

@@ -32,19 +32,19 @@ use Rattle.outcomes.specs.Searches.{Searches, for_convention, for_terminal, for_
 
 -- ---- what the input checks leave: dates of the book, and a tenor within its limit
 pub record Passed (q : Request) : Type 0 where
-  pub effective : in_book q.effective ≡ true
-  pub termination : in_book q.termination ≡ true
-  pub first : anchor_ok q.first ≡ true
-  pub penultimate : anchor_ok q.penultimate ≡ true
+  pub effective : in_book q.effective.day ≡ true
+  pub termination : in_book q.termination.day ≡ true
+  pub first : anchor_ok q.first.day ≡ true
+  pub penultimate : anchor_ok q.penultimate.day ≡ true
   pub tenor : tenor_ok (nat_abs q.tenor.length) q.tenor.unit ≡ true
 
 pub passed : (q : Request) (closed : List ℕ) (dates flags : ℕ) → first_row (input_rows q closed dates flags) ≡ 0 → Passed q
 unfolding dates_ok
 passed q closed dates flags h =
     let a = accepted q closed dates flags h in
-    let e = both (in_book q.effective) _ a.dates_hold in
-    let t = both (in_book q.termination) _ e.1 in
-    let f = both (anchor_ok q.first) _ t.1 in
+    let e = both (in_book q.effective.day) _ a.dates_hold in
+    let t = both (in_book q.termination.day) _ e.1 in
+    let f = both (anchor_ok q.first.day) _ t.1 in
     record { effective = e.0; termination = t.0; first = f.0; penultimate = f.1; tenor = a.tenor_holds }
 
 -- ---- anchors
@@ -86,7 +86,7 @@ module _ (q : Request) (closed : List ℕ) (room : ℕ) (k : Passed q) where
   zero_fine : Fine (Searches q) MadeOk (zero_dates q room)
   unfolding zero_dates
   zero_fine =
-      steps {P = Good} _ (steps _ (put_fine room q.termination 1 nothing (book_mid _ k.termination) tt) (λ m g. put_fine room q.effective 1 m (book_mid _ k.effective) g.all))
+      steps {P = Good} _ (steps _ (put_fine room q.termination.day 1 nothing (book_mid _ k.termination) tt) (λ m g. put_fine room q.effective.day 1 m (book_mid _ k.effective) g.all))
       (λ m g. gives _ (record { all = in_all m.dates g.all; seed = none }))
 
   anchor_fine : (anchor : ℕ) (m : Lists) → anchor_ok anchor ≡ true → Good m → Fine (Searches q) Good (put_anchor q.mask closed q.convention room anchor m)
@@ -100,27 +100,27 @@ module _ (q : Request) (closed : List ℕ) (room : ℕ) (k : Passed q) where
     loop_fine back seed exit m s b h g = walk_fine (seed_of q.monthend seed) (seed_ok q.monthend seed s) q.mask closed q.convention for_convention back (pace_of q.tenor) p exit b room SPAN_LAST 0 m (omega arith) g (h (pace_of q.tenor).monthly _ (zero-mul _))
 
     -- ---- Backward
-    penultimate_fine : (anchor : ℕ) (m : Lists) → anchor_ok anchor ≡ true → Good m → Fine (Searches q) Good (put_penultimate (pace_of q.tenor) (seed_of q.monthend q.termination) room anchor m)
+    penultimate_fine : (anchor : ℕ) (m : Lists) → anchor_ok anchor ≡ true → Good m → Fine (Searches q) Good (put_penultimate (pace_of q.tenor) (seed_of q.monthend q.termination.day) room anchor m)
     unfolding put_penultimate candidate
     penultimate_fine zero m h g = gives m g
     penultimate_fine (suc n) m h g =
         other ROOM (by_room refl) (has_room_in room m)
-        (steps _ (candidate_fine (seed_of q.monthend q.termination) (seed_ok q.monthend q.termination (book_mid _ k.termination)) (pace_of q.tenor).monthly true 0 (pace_of q.tenor).size (1 * (pace_of q.tenor).size) p.small (omega arith) (reach_back (pace_of q.tenor).monthly 0 q.termination q.monthend refl k.termination))
+        (steps _ (candidate_fine (seed_of q.monthend q.termination.day) (seed_ok q.monthend q.termination.day (book_mid _ k.termination)) (pace_of q.tenor).monthly true 0 (pace_of q.tenor).size (1 * (pace_of q.tenor).size) p.small (omega arith) (reach_back (pace_of q.tenor).monthly 0 q.termination.day q.monthend refl k.termination))
         (λ day i. put_fine room (suc n) _ m (book_mid _ (anchor_book n h)) g.all))
 
     pub begun_fine : Fine (Searches q) Good (begun q room)
     unfolding begun
-    begun_fine = steps _ (put_fine room q.termination 1 nothing (book_mid _ k.termination) tt) (λ m g. penultimate_fine q.penultimate m k.penultimate g)
+    begun_fine = steps _ (put_fine room q.termination.day 1 nothing (book_mid _ k.termination) tt) (λ m g. penultimate_fine q.penultimate.day m k.penultimate g)
 
     back_book : in_book (back_seed q) ≡ true
-    back_book = or_book q.penultimate q.termination k.penultimate k.termination
+    back_book = or_book q.penultimate.day q.termination.day k.penultimate k.termination
 
-    pub back_loop_fine : (m : Lists) → Good m → Fine (Searches q) GoodWalk (candidates q closed room true (back_seed q) (anchor_or q.first q.effective) m)
-    back_loop_fine m g = loop_fine true (back_seed q) _ m (book_mid _ back_book) (or_book q.first q.effective k.first k.effective) (λ monthly n z. reach_back monthly n (back_seed q) q.monthend z back_book) g
+    pub back_loop_fine : (m : Lists) → Good m → Fine (Searches q) GoodWalk (candidates q closed room true (back_seed q) (anchor_or q.first.day q.effective.day) m)
+    back_loop_fine m g = loop_fine true (back_seed q) _ m (book_mid _ back_book) (or_book q.first.day q.effective.day k.first k.effective) (λ monthly n z. reach_back monthly n (back_seed q) q.monthend z back_book) g
 
     ended_fine : (m : Lists) → Good m → Fine (Searches q) Good (ended q closed room m)
     unfolding ended
-    ended_fine m g = steps _ (anchor_fine q.first m k.first g) (λ z h. new_fine room q.mask closed q.convention for_convention q.effective 0 z (book_mid _ k.effective) h)
+    ended_fine m g = steps _ (anchor_fine q.first.day m k.first g) (λ z h. new_fine room q.mask closed q.convention for_convention q.effective.day 0 z (book_mid _ k.effective) h)
 
     backward_fine : Fine (Searches q) MadeOk (backward q closed room)
     unfolding backward backward_from backward_end
@@ -138,12 +138,12 @@ module _ (q : Request) (closed : List ℕ) (room : ℕ) (k : Passed q) where
     opening_fine : (b : Bool) → Fine (Searches q) Good (opening_by b q closed room)
     unfolding opening_by credit_opening
     opening_fine true =
-        let s = book_between q.effective k.effective in
-        steps _ (previous_fine 22812 26399 q.effective 0 (omega arith) (mid_at _ (book_mid _ k.effective)) (omega arith) (omega arith) s.from s.to q.rule) (λ day i.
+        let s = book_between q.effective.day k.effective in
+        steps _ (previous_fine 22812 26399 q.effective.day 0 (omega arith) (mid_at _ (book_mid _ k.effective)) (omega arith) (omega arith) s.from s.to q.rule) (λ day i.
         let m : Mid day = wider 22809 26402 22801 26411 day (omega arith) (omega arith) i in
         steps _ (adjust_fine 0 day (omega arith) (mid_at day m) q.mask closed q.convention for_convention) (λ a _.
-        steps _ (earlier_fine (ltb q.effective a) day i) (λ z g. put_fine room day 1 z m g)))
-    opening_fine false = put_fine room q.effective 1 nothing (book_mid _ k.effective) tt
+        steps _ (earlier_fine (ltb q.effective.day a) day i) (λ z g. put_fine room day 1 z m g)))
+    opening_fine false = put_fine room q.effective.day 1 nothing (book_mid _ k.effective) tt
 
     seed_fine : (day mark : ℕ) (m : Lists) → Mid day → Good m → Fine (Searches q) OpenedOk (put_seed room day mark m)
     unfolding put_seed
@@ -161,9 +161,9 @@ module _ (q : Request) (closed : List ℕ) (room : ℕ) (k : Passed q) where
         let s = book_between day b in
         next_fine 22812 26399 day 0 (omega arith) (mid_at _ (book_mid _ b)) (omega arith) (omega arith) s.from s.to q.rule
 
-    coming_fine : Fine (Searches q) Mid (coming_twentieth q.rule q.effective)
+    coming_fine : Fine (Searches q) Mid (coming_twentieth q.rule q.effective.day)
     unfolding coming_twentieth
-    coming_fine = steps _ (next_book q.effective k.effective) (λ day i. far_fine (is_near q.rule q.effective day) day i)
+    coming_fine = steps _ (next_book q.effective.day k.effective) (λ day i. far_fine (is_near q.rule q.effective.day day) day i)
 
     put_coming_fine : (b : Bool) (day : ℕ) (m : Lists) → Mid day → Good m → Fine (Searches q) OpenedOk (put_coming b q room day m)
     unfolding put_coming
@@ -172,12 +172,12 @@ module _ (q : Request) (closed : List ℕ) (room : ℕ) (k : Passed q) where
 
     twentieth_fine : (b : Bool) (m : Lists) → Good m → Fine (Searches q) OpenedOk (put_twentieth b q room m)
     unfolding put_twentieth
-    twentieth_fine true m g = steps _ coming_fine (λ day h. put_coming_fine (eqb day q.effective) day m h g)
+    twentieth_fine true m g = steps _ coming_fine (λ day h. put_coming_fine (eqb day q.effective.day) day m h g)
     twentieth_fine false m g = gives _ (record { lists = g; seed = g.front })
 
-    closing_day_fine : (b : Bool) → Fine (Searches q) Mid (closing_day b q.rule q.termination)
+    closing_day_fine : (b : Bool) → Fine (Searches q) Mid (closing_day b q.rule q.termination.day)
     unfolding closing_day
-    closing_day_fine true = weaker (next_book q.termination k.termination) (λ r i. wider 22809 26402 22801 26411 r (omega arith) (omega arith) i)
+    closing_day_fine true = weaker (next_book q.termination.day k.termination) (λ r i. wider 22809 26402 22801 26411 r (omega arith) (omega arith) i)
     closing_day_fine false = gives _ (book_mid _ k.termination)
 
     put_closing_fine : (b : Bool) (m : Lists) → Good m → Fine (Searches q) Good (put_closing b q room m)
@@ -189,32 +189,32 @@ module _ (q : Request) (closed : List ℕ) (room : ℕ) (k : Passed q) where
     unfolding closing
     closing_fine m g =
         steps _ (adjust_fine 0 (newest m) (omega arith) (mid_at _ g.front) q.mask closed q.terminal for_terminal) (λ a _.
-        steps _ (adjust_fine 0 q.termination (omega arith) (mid_at _ (book_mid _ k.termination)) q.mask closed q.terminal for_terminal) (λ b _.
+        steps _ (adjust_fine 0 q.termination.day (omega arith) (mid_at _ (book_mid _ k.termination)) q.mask closed q.terminal for_terminal) (λ b _.
         put_closing_fine (eqb a b) m g))
 
     shut_fine : (m : Lists) → Good m → Fine (Searches q) Good (shut q closed room m)
     unfolding shut
-    shut_fine m g = steps _ (anchor_fine q.penultimate m k.penultimate g) (λ z h. closing_fine z h)
+    shut_fine m g = steps _ (anchor_fine q.penultimate.day m k.penultimate g) (λ z h. closing_fine z h)
 
     module _ (forth : is_backward (rule_in_force q) ≡ false) where
-      first_fine : (m : Lists) → (q.first ≡ 0 → ⊥) → in_book q.first ≡ true → Good m → Fine (Searches q) OpenedOk (put_first q closed room m)
+      first_fine : (m : Lists) → (q.first.day ≡ 0 → ⊥) → in_book q.first.day ≡ true → Good m → Fine (Searches q) OpenedOk (put_first q closed room m)
       unfolding put_first tenor_on
       first_fine m z b g =
           other ROOM (by_room refl) (has_room_in room m)
           (steps _ (advanced_fine q.mask closed q.convention for_convention q.monthend for_month_end (newest m) g.front q.tenor.unit (nat_abs q.tenor.length) (λ u. for_first_date forth z u) k.tenor) (λ day _.
-          seed_fine q.first _ m (book_mid _ b) g))
+          seed_fine q.first.day _ m (book_mid _ b) g))
 
-      second_fine : (n : ℕ) (m : Lists) → q.first ≡ n → Good m → Fine (Searches q) OpenedOk (second n q closed room m)
+      second_fine : (n : ℕ) (m : Lists) → q.first.day ≡ n → Good m → Fine (Searches q) OpenedOk (second n q closed room m)
       unfolding second
       second_fine zero m x g = twentieth_fine (on_twentieths q.rule) m g
       second_fine (suc n) m x g = first_fine m (λ z. omega arith) (rw x (anchor_book n (sym (ap anchor_ok x) ∙ k.first))) g
 
       pub opened_fine : Fine (Searches q) OpenedOk (opened q closed room)
       unfolding opened opening
-      opened_fine = steps _ (opening_fine (is_credit q.rule)) (λ m g. second_fine q.first m refl g)
+      opened_fine = steps _ (opening_fine (is_credit q.rule)) (λ m g. second_fine q.first.day m refl g)
 
-      pub forth_loop_fine : (o : Opened) → OpenedOk o → Fine (Searches q) GoodWalk (candidates q closed room false o.seed (anchor_or q.penultimate q.termination) o.lists)
-      forth_loop_fine o g = loop_fine false o.seed _ o.lists g.seed (or_book q.penultimate q.termination k.penultimate k.termination) (λ monthly n z. reach_forth monthly n o.seed q.monthend z g.seed) g.lists
+      pub forth_loop_fine : (o : Opened) → OpenedOk o → Fine (Searches q) GoodWalk (candidates q closed room false o.seed (anchor_or q.penultimate.day q.termination.day) o.lists)
+      forth_loop_fine o g = loop_fine false o.seed _ o.lists g.seed (or_book q.penultimate.day q.termination.day k.penultimate k.termination) (λ monthly n z. reach_forth monthly n o.seed q.monthend z g.seed) g.lists
 
       forward_fine : Fine (Searches q) MadeOk (forward q closed room)
       unfolding forward forward_from forward_end

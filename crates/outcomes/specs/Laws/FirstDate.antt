@@ -109,7 +109,7 @@ module _ (a b room : ℕ) where
     made_alike : (tries seed : ℕ) (l m : Lists) → Ends a b l m → Alike (Behind a b) (forward_end q closed room tries seed l) (forward_end q closed room tries seed m)
     unfolding forward_end shut
     made_alike tries seed l m h =
-        after (after (anchor_alike q.penultimate h) (λ x y i. closing_alike x y i)) (λ x y i. gave (turned i))
+        after (after (anchor_alike q.penultimate.day h) (λ x y i. closing_alike x y i)) (λ x y i. gave (turned i))
       where
         turned : {x y : Lists} → Ends a b x y → Behind a b (made_forth tries seed x) (made_forth tries seed y)
         turned (ends d ds marks) = record { later = reverse (d ∷ ds); first = reverse-append (d ∷ ds) (a ∷ []); other = reverse-append (d ∷ ds) (b ∷ []); flags = refl; tries = refl; seed = refl }

@@ -119,7 +119,7 @@ module _ (r r' : ℕ) (more : r ≤ r') where
 
     firsts : (l : Lists) → many l < n → Under r opened_by n (put_first q closed r l) (put_first q closed r' l)
     unfolding put_first
-    firsts l h = need_room l _ _ h (onward _ (tenor_free q closed _) (λ day. seeds q.first _ l h))
+    firsts l h = need_room l _ _ h (onward _ (tenor_free q closed _) (λ day. seeds q.first.day _ l h))
 
     comings : (b : Bool) (day : ℕ) (l : Lists) → many l < n → Under r opened_by n (put_coming b q r day l) (put_coming b q r' day l)
     unfolding put_coming
@@ -128,7 +128,7 @@ module _ (r r' : ℕ) (more : r ≤ r') where
 
     twentieths : (b : Bool) (l : Lists) → many l < n → Under r opened_by n (put_twentieth b q r l) (put_twentieth b q r' l)
     unfolding put_twentieth
-    twentieths true l h = onward _ (coming _ _) (λ day. comings (eqb day q.effective) day l h)
+    twentieths true l h = onward _ (coming _ _) (λ day. comings (eqb day q.effective.day) day l h)
     twentieths false l h = gives n _ (omega arith)
 
     seconds : (first : ℕ) (l : Lists) → many l < n → Under r opened_by n (second first q closed r l) (second first q closed r' l)
@@ -144,12 +144,12 @@ module _ (r r' : ℕ) (more : r ≤ r') where
   module _ (q : Request) (closed : List ℕ) where
     opens : (b : Bool) → Under r many 2 (opening_by b q closed r) (opening_by b q closed r')
     unfolding opening_by credit_opening
-    opens true = onward _ (previous _ _) (λ day. onward _ (adjust q.mask closed q.convention day) (λ a. after _ _ (omega arith) (earliers (ltb q.effective a) day) (λ l h. puts day 1 l (omega arith))))
-    opens false = puts q.effective 1 nothing (omega arith)
+    opens true = onward _ (previous _ _) (λ day. onward _ (adjust q.mask closed q.convention day) (λ a. after _ _ (omega arith) (earliers (ltb q.effective.day a) day) (λ l h. puts day 1 l (omega arith))))
+    opens false = puts q.effective.day 1 nothing (omega arith)
 
     openeds : Under r opened_by 3 (opened q closed r) (opened q closed r')
     unfolding opened opening
-    openeds = after _ _ (omega arith) (opens (is_credit q.rule)) (λ l h. seconds q closed q.first l (omega arith))
+    openeds = after _ _ (omega arith) (opens (is_credit q.rule)) (λ l h. seconds q closed q.first.day l (omega arith))
 
     loops : (back : Bool) (seed exit : ℕ) (l : Lists) → many l ≤ 3 → Under r walked 876220 (candidates q closed r back seed exit l) (candidates q closed r' back seed exit l)
     unfolding candidates last_try
@@ -157,11 +157,11 @@ module _ (r r' : ℕ) (more : r ≤ r') where
 
     shuts : (l : Lists) → many l ≤ 876220 → Under r many 876222 (shut q closed r l) (shut q closed r' l)
     unfolding shut
-    shuts l h = after _ _ (omega arith) (anchors {n = 876221} q closed q.penultimate l (omega arith)) (λ m i. closings q closed m (omega arith))
+    shuts l h = after _ _ (omega arith) (anchors {n = 876221} q closed q.penultimate.day l (omega arith)) (λ m i. closings q closed m (omega arith))
 
     ends : (l : Lists) → many l ≤ 876220 → Under r many 876222 (ended q closed r l) (ended q closed r' l)
     unfolding ended
-    ends l h = after _ _ (omega arith) (anchors {n = 876221} q closed q.first l (omega arith)) (λ m i. news q.mask closed q.convention q.effective q.effective 0 m (omega arith))
+    ends l h = after _ _ (omega arith) (anchors {n = 876221} q closed q.first.day l (omega arith)) (λ m i. news q.mask closed q.convention q.effective.day q.effective.day 0 m (omega arith))
 
     forwards : Under r any 876222 (forward q closed r) (forward q closed r')
     unfolding forward forward_from forward_end
@@ -172,7 +172,7 @@ module _ (r r' : ℕ) (more : r ≤ r') where
 
     begins : Under r many 2 (begun q r) (begun q r')
     unfolding begun
-    begins = after _ _ (omega arith) (puts {n = 1} q.termination 1 nothing (omega arith)) (λ l h. penultimates q closed _ _ q.penultimate l (omega arith))
+    begins = after _ _ (omega arith) (puts {n = 1} q.termination.day 1 nothing (omega arith)) (λ l h. penultimates q closed _ _ q.penultimate.day l (omega arith))
 
     backwards : Under r any 876222 (backward q closed r) (backward q closed r')
     unfolding backward backward_from backward_end
@@ -184,7 +184,7 @@ module _ (r r' : ℕ) (more : r ≤ r') where
     zeros : Under r any 876222 (zero_dates q r) (zero_dates q r')
     unfolding zero_dates
     zeros =
-        after _ _ (omega arith) (after _ _ (omega arith) (puts {n = 1} q.termination 1 nothing (omega arith)) (λ l h. puts {n = 2} q.effective 1 l (omega arith)))
+        after _ _ (omega arith) (after _ _ (omega arith) (puts {n = 1} q.termination.day 1 nothing (omega arith)) (λ l h. puts {n = 2} q.effective.day 1 l (omega arith)))
         (λ m j. gives 876222 _ (omega arith))
 
     pub generates : Under r any 876222 (generate q closed r) (generate q closed r')

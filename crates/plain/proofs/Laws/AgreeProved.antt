@@ -61,14 +61,14 @@ clamped Years i back n x r h = by_months back n (12 * x) r h
 -- a day of at most 28 is kept
 pub early_same : (q : Request) (k : ℕ) → Whole q k → EarlyDay q → SameDay q
 early_same q k w h i =
-    let l = clamped q.tenor.unit i false q.effective _ _ w.leads in
+    let l = clamped q.tenor.unit i false q.effective.day _ _ w.leads in
     omega (arith, l.1, l.2, h i)
 
 -- one that leads back was kept
-returns : (q : Request) (k : ℕ) → Whole q k → LiesSo q q.effective → SameDay q
+returns : (q : Request) (k : ℕ) → Whole q k → LiesSo q q.effective.day → SameDay q
 returns q k w o i =
-    let l = clamped q.tenor.unit i false q.effective _ _ w.leads in
-    let m = clamped q.tenor.unit i true q.termination _ _ o.1 in
+    let l = clamped q.tenor.unit i false q.effective.day _ _ w.leads in
+    let m = clamped q.tenor.unit i true q.termination.day _ _ o.1 in
     omega (arith, l.2, m.2)
 
 -- effective plus x days or months is termination less what is left of them
@@ -120,10 +120,10 @@ module _ {q : Request} {k : ℕ} where
 
 module _ (q : Request) (k : ℕ) (w : Whole q k) where
   abbrev e : ℕ
-  e = q.effective
+  e = q.effective.day
 
   abbrev t : ℕ
-  t = q.termination
+  t = q.termination.day
 
   abbrev n : ℕ
   n = tenor_count q

@@ -15,7 +15,7 @@ use Rattle.plain.proofs.Laws.Proved.{first_is, demand_3}
 use Rattle.plain.proofs.Laws.Settled.{same_first}
 
 module _ (q : Request) (closed : List ℕ) (dates flags : ℕ) (p : Plain q) (c : Passes q closed dates flags) (m : ℕ) (w : Most q m) where
-  abbrev g : GeneratedBack q.effective q.termination (min dates 4096) (tenors_before q) (m / tenor_count q) (generate q closed (min dates 4096))
+  abbrev g : GeneratedBack q.effective.day q.termination.day (min dates 4096) (tenors_before q) (m / tenor_count q) (generate q closed (min dates 4096))
   g = generated q p closed dates flags c m w (min dates 4096)
 
   pub owed_list_owed : Owed q (owed_list q m)

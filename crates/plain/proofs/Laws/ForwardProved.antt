@@ -20,24 +20,24 @@ use Rattle.plain.proofs.Laws.Onward.{finished_on, checks_on, most_is, most_only,
 use Rattle.plain.proofs.Laws.Proved.{one_of, over_is}
 
 module _ (q : Request) (closed : List ℕ) (dates flags : ℕ) (p : PlainForward q) (c : Passes q closed dates flags) where
-  owed_span : (d : ℕ) → DueOn (tenors_after q) q.effective q.termination d → InSpan d
-  owed_span d (effective e) = rw e (record { low = omega (arith, book_from q.effective c.effective_in_book); high = omega (arith, book_le q.effective c.effective_in_book) })
-  owed_span d (between l h o) = span_on q.effective (o.count * tenor_length q) q.tenor.unit d o.lies
-  owed_span d (termination e) = rw e (record { low = omega (arith, book_from q.termination c.termination_in_book); high = omega (arith, book_le q.termination c.termination_in_book) })
+  owed_span : (d : ℕ) → DueOn (tenors_after q) q.effective.day q.termination.day d → InSpan d
+  owed_span d (effective e) = rw e (record { low = omega (arith, book_from q.effective.day c.effective_in_book); high = omega (arith, book_le q.effective.day c.effective_in_book) })
+  owed_span d (between l h o) = span_on q.effective.day (o.count * tenor_length q) q.tenor.unit d o.lies
+  owed_span d (termination e) = rw e (record { low = omega (arith, book_from q.termination.day c.termination_in_book); high = omega (arith, book_le q.termination.day c.termination_in_book) })
 
   build_is : build_of q closed dates flags ≡ steps_in q closed (min dates 4096)
   unfolding build_of admitted
   build_is = rw ((checks_on q p closed dates flags).1 c) (steps_cut q closed dates)
 
   module _ (m : ℕ) (w : MostOn q m) (room : ℕ) where
-    abbrev g : GeneratedOn q.effective q.termination room (tenors_after q) (m / tenor_count q) (generate q closed room)
+    abbrev g : GeneratedOn q.effective.day q.termination.day room (tenors_after q) (m / tenor_count q) (generate q closed room)
     g = generated_on q p closed dates flags c m w room
 
     abbrev schedule : Schedule
     schedule = record { dates = g.dates; flags = replicate (length g.dates - 2) 1 ++ (g.flag ∷ []); tries = suc (m / tenor_count q) }
 
-    done : finish q closed q.effective g.dates (replicate (length g.dates - 2) 1 ++ (g.flag ∷ [])) ≡ given (record { dates = g.dates; flags = replicate (length g.dates - 2) 1 ++ (g.flag ∷ []) })
-    done = finished_on q p closed q.effective g.dates _ (λ d h. owed_span d (g.lists.only d h)) g.lists.ascends
+    done : finish q closed q.effective.day g.dates (replicate (length g.dates - 2) 1 ++ (g.flag ∷ [])) ≡ given (record { dates = g.dates; flags = replicate (length g.dates - 2) 1 ++ (g.flag ∷ []) })
+    done = finished_on q p closed q.effective.day g.dates _ (λ d h. owed_span d (g.lists.only d h)) g.lists.ascends
 
     fits : length g.dates ≤ room → steps_in q closed room ≡ given schedule
     unfolding steps_in then
@@ -48,7 +48,7 @@ module _ (q : Request) (closed : List ℕ) (dates flags : ℕ) (p : PlainForward
     over h = rw (g.refuses h)
 
     last_is : LastFlag q g.flag
-    last_is = ⊎_elim (λ (h : (g.flag ≡ 1) × LiesAfter q q.termination). regular h.0 h.1) (λ (h : (g.flag ≡ 0) × (LiesAfter q q.termination → ⊥)). irregular h.0 h.1) g.last_flag
+    last_is = ⊎_elim (λ (h : (g.flag ≡ 1) × LiesAfter q q.termination.day). regular h.0 h.1) (λ (h : (g.flag ≡ 0) × (LiesAfter q q.termination.day → ⊥)). irregular h.0 h.1) g.last_flag
 
     says : AcceptedOn q g.dates m schedule
     says = record { dates = refl; flags = record { last = g.flag; last_flag = last_is; all_flags = refl }; tries = omega arith }

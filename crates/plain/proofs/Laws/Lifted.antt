@@ -22,14 +22,14 @@ pub record KeptIn (q : Request) (room : ℕ) (ds : List ℕ) (m : ℕ) (o : Answ
   pub accepted_else : length ds ≤ room → (s : Schedule) × (o ≡ given s) × Accepted q ds m s
 
 module _ (q : Request) (closed : List ℕ) (dates flags : ℕ) (p : Plain q) (c : Passes q closed dates flags) (m : ℕ) (w : Most q m) (room : ℕ) where
-  abbrev g : GeneratedBack q.effective q.termination room (tenors_before q) (m / tenor_count q) (generate q closed room)
+  abbrev g : GeneratedBack q.effective.day q.termination.day room (tenors_before q) (m / tenor_count q) (generate q closed room)
   g = generated q p closed dates flags c m w room
 
   abbrev schedule : Schedule
   schedule = record { dates = g.dates; flags = g.flag ∷ replicate (length g.dates - 2) 1; tries = suc (m / tenor_count q) }
 
-  done : finish q closed q.termination g.dates (g.flag ∷ replicate (length g.dates - 2) 1) ≡ given (record { dates = g.dates; flags = g.flag ∷ replicate (length g.dates - 2) 1 })
-  done = finished_same q closed q.termination g.dates _ (rule_is q p) p.unadjusted p.unadjusted_last p.no_month_end (λ d h. owed_span q closed dates flags p c d (g.lists.only d h)) g.lists.ascends
+  done : finish q closed q.termination.day g.dates (g.flag ∷ replicate (length g.dates - 2) 1) ≡ given (record { dates = g.dates; flags = g.flag ∷ replicate (length g.dates - 2) 1 })
+  done = finished_same q closed q.termination.day g.dates _ (rule_is q p) p.unadjusted p.unadjusted_last p.no_month_end (λ d h. owed_span q closed dates flags p c d (g.lists.only d h)) g.lists.ascends
 
   fits : length g.dates ≤ room → steps_in q closed room ≡ given schedule
   unfolding steps_in then
@@ -40,7 +40,7 @@ module _ (q : Request) (closed : List ℕ) (dates flags : ℕ) (p : Plain q) (c 
   over h = rw (g.refuses h)
 
   first_is : FirstFlag q g.flag
-  first_is = ⊎_elim (λ (h : (g.flag ≡ 1) × LiesSo q q.effective). regular h.0 h.1) (λ (h : (g.flag ≡ 0) × ((k : ℕ) → tenors_before q k ≡ given q.effective → ⊥)). irregular h.0 (λ l. h.1 l.0 l.1)) g.first_flag
+  first_is = ⊎_elim (λ (h : (g.flag ≡ 1) × LiesSo q q.effective.day). regular h.0 h.1) (λ (h : (g.flag ≡ 0) × ((k : ℕ) → tenors_before q k ≡ given q.effective.day → ⊥)). irregular h.0 (λ l. h.1 l.0 l.1)) g.first_flag
 
   kept : KeptIn q room g.dates m (steps_in q closed room)
   kept = record {

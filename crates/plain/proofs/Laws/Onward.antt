@@ -60,49 +60,49 @@ module _ (q : Request) (p : PlainForward q) where
   pace = pace_of q.tenor
 
   abbrev seed : Seed
-  seed = seed_of false q.effective
+  seed = seed_of false q.effective.day
 
   module _ (closed : List ℕ) (room : ℕ) where
     -- ---- termination
-    closing_put : (b : Bool) (l : Lists) → put_closing b q room l ≡ put_unless b room q.termination 0 l
+    closing_put : (b : Bool) (l : Lists) → put_closing b q room l ≡ put_unless b room q.termination.day 0 l
     unfolding put_closing put_unless closing_day on_twentieths one_of rule_number then
     closing_put true l = refl
     closing_put false l = rw p.forward refl
 
-    closing_is : (l : Lists) → closing q closed room l ≡ put_new q.mask closed Unadjusted room q.termination q.termination 0 l
+    closing_is : (l : Lists) → closing q closed room l ≡ put_new q.mask closed Unadjusted room q.termination.day q.termination.day 0 l
     unfolding closing put_new then
     closing_is l =
-        ap (λ (c : Convention). then (adjusted q.mask closed c (newest l)) (λ a. then (adjusted q.mask closed c q.termination) (λ b. put_closing (eqb a b) q room l))) p.unadjusted_last
-        ∙ by (adjusted q.mask closed Unadjusted (newest l)) (adjusted q.mask closed Unadjusted q.termination)
+        ap (λ (c : Convention). then (adjusted q.mask closed c (newest l)) (λ a. then (adjusted q.mask closed c q.termination.day) (λ b. put_closing (eqb a b) q room l))) p.unadjusted_last
+        ∙ by (adjusted q.mask closed Unadjusted (newest l)) (adjusted q.mask closed Unadjusted q.termination.day)
       where
-        by : (x y : Answer ℕ) → then x (λ a. then y (λ b. put_closing (eqb a b) q room l)) ≡ then x (λ a. then y (λ b. put_unless (eqb a b) room q.termination 0 l))
+        by : (x y : Answer ℕ) → then x (λ a. then y (λ b. put_closing (eqb a b) q room l)) ≡ then x (λ a. then y (λ b. put_unless (eqb a b) room q.termination.day 0 l))
         by (refused n) y = refl
         by (given a) (refused n) = refl
         by (given a) (given b) = closing_put (eqb a b) l
 
-    shut_is : (l : Lists) → shut q closed room l ≡ put_new q.mask closed Unadjusted room q.termination q.termination 0 l
+    shut_is : (l : Lists) → shut q closed room l ≡ put_new q.mask closed Unadjusted room q.termination.day q.termination.day 0 l
     unfolding shut put_anchor then
     shut_is l = ap (λ (k : ℕ). then (put_anchor q.mask closed q.convention room k l) (closing q closed room)) p.no_penultimate ∙ closing_is l
 
     -- ---- the loop, and the first date, which is the seed
-    from_first : (l : Lists) → forward_from q closed room (record { lists = l; seed = q.effective }) ≡ then (walk (turn_of q.mask closed Unadjusted false pace seed q.termination) room last_try 1 l) (λ w. then (put_new q.mask closed Unadjusted room q.termination q.termination 0 w.lists) (λ m. given (made_forth w.tries q.effective m)))
+    from_first : (l : Lists) → forward_from q closed room (record { lists = l; seed = q.effective.day }) ≡ then (walk (turn_of q.mask closed Unadjusted false pace seed q.termination.day) room last_try 1 l) (λ w. then (put_new q.mask closed Unadjusted room q.termination.day q.termination.day 0 w.lists) (λ m. given (made_forth w.tries q.effective.day m)))
     unfolding forward_from candidates anchor_or is_given forward_end
     from_first l =
-        λ i. then (walk (turn_of q.mask closed (p.unadjusted i) false pace (seed_of (p.no_month_end i) q.effective) (anchor_or (p.no_penultimate i) q.termination)) room last_try 1 l) (λ w. then (shut_is w.lists i) (λ m. given (made_forth w.tries q.effective m)))
+        λ i. then (walk (turn_of q.mask closed (p.unadjusted i) false pace (seed_of (p.no_month_end i) q.effective.day) (anchor_or (p.no_penultimate i) q.termination.day)) room last_try 1 l) (λ w. then (shut_is w.lists i) (λ m. given (made_forth w.tries q.effective.day m)))
 
-    with_room : (b : Bool) → then (then (need ROOM b (given (onto q.effective 1 nothing))) (λ l. given (record { lists = l; seed = newest l }))) (forward_from q closed room) ≡ then (need ROOM b (given (onto q.effective 1 nothing))) (λ l. then (walk (turn_of q.mask closed Unadjusted false pace seed q.termination) room last_try 1 l) (λ w. then (put_new q.mask closed Unadjusted room q.termination q.termination 0 w.lists) (λ m. given (made_forth w.tries q.effective m))))
+    with_room : (b : Bool) → then (then (need ROOM b (given (onto q.effective.day 1 nothing))) (λ l. given (record { lists = l; seed = newest l }))) (forward_from q closed room) ≡ then (need ROOM b (given (onto q.effective.day 1 nothing))) (λ l. then (walk (turn_of q.mask closed Unadjusted false pace seed q.termination.day) room last_try 1 l) (λ w. then (put_new q.mask closed Unadjusted room q.termination.day q.termination.day 0 w.lists) (λ m. given (made_forth w.tries q.effective.day m))))
     unfolding need then
-    with_room true = from_first (onto q.effective 1 nothing)
+    with_room true = from_first (onto q.effective.day 1 nothing)
     with_room false = refl
 
-    forward_is : forward q closed room ≡ from_effective q.mask closed pace seed room q.effective q.termination
+    forward_is : forward q closed room ≡ from_effective q.mask closed pace seed room q.effective.day q.termination.day
     unfolding forward opened opening opening_by second put_twentieth is_credit on_twentieths one_of rule_number put from_effective
     forward_is =
         (λ i. then (then (opening_by (is_credit (p.forward i)) q closed room) (second (p.no_first i) q closed room)) (forward_from q closed room))
-        ∙ (λ i. then (then (put room q.effective 1 nothing) (λ l. put_twentieth (on_twentieths (p.forward i)) q room l)) (forward_from q closed room))
+        ∙ (λ i. then (then (put room q.effective.day 1 nothing) (λ l. put_twentieth (on_twentieths (p.forward i)) q room l)) (forward_from q closed room))
         ∙ with_room (has_room_in room nothing)
 
-    pub generate_on : generate q closed room ≡ from_effective q.mask closed pace seed room q.effective q.termination
+    pub generate_on : generate q closed room ≡ from_effective q.mask closed pace seed room q.effective.day q.termination.day
     unfolding generate generate_by is_zero is_backward one_of rule_number
     generate_on = rw rule_on forward_is
 
@@ -148,35 +148,35 @@ module _ (q : Request) (p : PlainForward q) where
   -- ---- the candidates
   tenors_are : (k : ℕ) → candidate false pace seed k ≡ tenors_after q k
   unfolding pace_of
-  tenors_are k = candidate_by_tenors false (tenor_length q) q.tenor.unit q.effective k
+  tenors_are k = candidate_by_tenors false (tenor_length q) q.tenor.unit q.effective.day k
 
   module _ (closed : List ℕ) (dates flags : ℕ) (c : Passes q closed dates flags) where
-    abbrev to_span : q.termination ≤ SPAN_LAST
-    to_span = omega (arith, book_le q.termination c.termination_in_book)
+    abbrev to_span : q.termination.day ≤ SPAN_LAST
+    to_span = omega (arith, book_le q.termination.day c.termination_in_book)
 
-    pub climb : Climb (added q) q.effective q.termination (tenor_count q)
-    climb = climb_of q.effective q.termination (tenor_length q) q.tenor.unit c.effective_in_book (le_of_lt p.order) c.termination_in_book c.tenor_short
+    pub climb : Climb (added q) q.effective.day q.termination.day (tenor_count q)
+    climb = climb_of q.effective.day q.termination.day (tenor_length q) q.tenor.unit c.effective_in_book (le_of_lt p.order) c.termination_in_book c.tenor_short
 
     pub most_is : (m : ℕ) × MostOn q m
-    most_is = some_added (added q) q.effective q.termination (tenor_count q) some_units (le_of_lt p.order) to_span climb
+    most_is = some_added (added q) q.effective.day q.termination.day (tenor_count q) some_units (le_of_lt p.order) to_span climb
 
     pub most_only : (m m' : ℕ) → MostOn q m → MostOn q m' → m' ≡ m
-    most_only = one_added (added q) q.effective q.termination (tenor_count q) some_units (le_of_lt p.order) to_span climb
+    most_only = one_added (added q) q.effective.day q.termination.day (tenor_count q) some_units (le_of_lt p.order) to_span climb
 
     module _ (m : ℕ) (w : MostOn q m) where
-      pub tenors_rise : Rises (tenors_after q) q.effective q.termination (m / tenor_count q)
-      tenors_rise = counted_on (added q) q.effective q.termination (tenor_count q) some_units (le_of_lt p.order) to_span climb m w (tenors_after q) (counts_by false (tenor_length q) q.tenor.unit q.effective)
+      pub tenors_rise : Rises (tenors_after q) q.effective.day q.termination.day (m / tenor_count q)
+      tenors_rise = counted_on (added q) q.effective.day q.termination.day (tenor_count q) some_units (le_of_lt p.order) to_span climb m w (tenors_after q) (counts_by false (tenor_length q) q.tenor.unit q.effective.day)
 
       few : m / tenor_count q < last_try
       unfolding last_try
       few = omega (arith, div-le_self m (tenor_count q), climb.few m w.day w.can_be_added w.not_passing)
 
       -- what is generated, by whole tenors after effective
-      pub generated_on : (room : ℕ) → GeneratedOn q.effective q.termination room (tenors_after q) (m / tenor_count q) (generate q closed room)
+      pub generated_on : (room : ℕ) → GeneratedOn q.effective.day q.termination.day room (tenors_after q) (m / tenor_count q) (generate q closed room)
       generated_on room =
           rw (generate_on closed room)
-          (subst (λ (f : ℕ → Answer ℕ). GeneratedOn q.effective q.termination room f (m / tenor_count q) (from_effective q.mask closed pace seed room q.effective q.termination)) (fun_ext (λ k. tenors_are k))
-          (rising q.mask closed pace seed room q.effective q.termination (m / tenor_count q) by_candidates p.order few (omega (arith, book_from q.effective c.effective_in_book)) to_span))
+          (subst (λ (f : ℕ → Answer ℕ). GeneratedOn q.effective.day q.termination.day room f (m / tenor_count q) (from_effective q.mask closed pace seed room q.effective.day q.termination.day)) (fun_ext (λ k. tenors_are k))
+          (rising q.mask closed pace seed room q.effective.day q.termination.day (m / tenor_count q) by_candidates p.order few (omega (arith, book_from q.effective.day c.effective_in_book)) to_span))
         where
-          by_candidates : Rises (candidate false pace seed) q.effective q.termination (m / tenor_count q)
-          by_candidates = subst (λ (f : ℕ → Answer ℕ). Rises f q.effective q.termination (m / tenor_count q)) (fun_ext (λ k. sym (tenors_are k))) tenors_rise
+          by_candidates : Rises (candidate false pace seed) q.effective.day q.termination.day (m / tenor_count q)
+          by_candidates = subst (λ (f : ℕ → Answer ℕ). Rises f q.effective.day q.termination.day (m / tenor_count q)) (fun_ext (λ k. sym (tenors_are k))) tenors_rise

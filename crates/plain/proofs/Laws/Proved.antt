@@ -31,18 +31,18 @@ module _ (q : Request) (closed : List ℕ) (dates flags : ℕ) (p : Plain q) (c 
   build_is = rw ((checks_are q closed dates flags p).1 c)
 
   pub owed_span : (d : ℕ) → OwedDate q d → InSpan d
-  owed_span d (inl e) = rw e (record { low = omega (arith, book_from q.effective c.effective_in_book); high = omega (arith, book_le q.effective c.effective_in_book) })
-  owed_span d (inr o) = span_of q.termination (o.1.0 * tenor_length q) q.tenor.unit d o.1.1
+  owed_span d (inl e) = rw e (record { low = omega (arith, book_from q.effective.day c.effective_in_book); high = omega (arith, book_le q.effective.day c.effective_in_book) })
+  owed_span d (inr o) = span_of q.termination.day (o.1.0 * tenor_length q) q.tenor.unit d o.1.1
 
   module _ (m : ℕ) (w : Most q m) where
-    abbrev g : GeneratedBack q.effective q.termination (min dates 4096) (tenors_before q) (m / tenor_count q) (generate q closed (min dates 4096))
+    abbrev g : GeneratedBack q.effective.day q.termination.day (min dates 4096) (tenors_before q) (m / tenor_count q) (generate q closed (min dates 4096))
     g = generated q p closed dates flags c m w (min dates 4096)
 
     abbrev schedule : Schedule
     schedule = record { dates = g.dates; flags = g.flag ∷ replicate (length g.dates - 2) 1; tries = suc (m / tenor_count q) }
 
-    done : finish q closed q.termination g.dates (g.flag ∷ replicate (length g.dates - 2) 1) ≡ given (record { dates = g.dates; flags = g.flag ∷ replicate (length g.dates - 2) 1 })
-    done = finished_same q closed q.termination g.dates _ (rule_is q p) p.unadjusted p.unadjusted_last p.no_month_end (λ d h. owed_span d (g.lists.only d h)) g.lists.ascends
+    done : finish q closed q.termination.day g.dates (g.flag ∷ replicate (length g.dates - 2) 1) ≡ given (record { dates = g.dates; flags = g.flag ∷ replicate (length g.dates - 2) 1 })
+    done = finished_same q closed q.termination.day g.dates _ (rule_is q p) p.unadjusted p.unadjusted_last p.no_month_end (λ d h. owed_span d (g.lists.only d h)) g.lists.ascends
 
     fits : length g.dates ≤ min dates 4096 → build_of q closed dates flags ≡ given schedule
     unfolding steps_of then
@@ -53,7 +53,7 @@ module _ (q : Request) (closed : List ℕ) (dates flags : ℕ) (p : Plain q) (c 
     over h = build_is ∙ rw (g.refuses h)
 
     pub first_is : FirstFlag q g.flag
-    first_is = ⊎_elim (λ (h : (g.flag ≡ 1) × LiesSo q q.effective). regular h.0 h.1) (λ (h : (g.flag ≡ 0) × ((k : ℕ) → tenors_before q k ≡ given q.effective → ⊥)). irregular h.0 (λ l. h.1 l.0 l.1)) g.first_flag
+    first_is = ⊎_elim (λ (h : (g.flag ≡ 1) × LiesSo q q.effective.day). regular h.0 h.1) (λ (h : (g.flag ≡ 0) × ((k : ℕ) → tenors_before q k ≡ given q.effective.day → ⊥)). irregular h.0 (λ l. h.1 l.0 l.1)) g.first_flag
 
     says : Accepted q g.dates m schedule
     says = record { dates = refl; flags = record { first = g.flag; first_flag = first_is; all_flags = refl }; tries = omega arith }

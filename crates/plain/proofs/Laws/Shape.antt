@@ -38,32 +38,32 @@ greatest_last ds t a h g =
     no i l e q = omega (arith, ascending_at ds i (length ds - 1) a q (omega arith), g (get_or ds (length ds - 1) 0) (at_in ds (length ds - 1) (omega arith)))
 
 module _ (q : Request) (closed : List ℕ) (dates flags : ℕ) (p : Plain q) (c : Passes q closed dates flags) where
-  not_before : (d : ℕ) → OwedDate q d → q.effective ≤ d
+  not_before : (d : ℕ) → OwedDate q d → q.effective.day ≤ d
   not_before d (inl e) = omega arith
   not_before d (inr h) = omega (arith, h.0)
 
   abbrev most : (m : ℕ) × Most q m
   most = most_is q p closed dates flags c
 
-  abbrev falls : Falls (tenors_before q) q.effective q.termination (most.0 / tenor_count q)
+  abbrev falls : Falls (tenors_before q) q.effective.day q.termination.day (most.0 / tenor_count q)
   falls = tenors_fall q p closed dates flags c most.0 most.1
 
-  none_later : (k d : ℕ) → tenors_before q k ≡ given d → d ≤ q.termination
-  none_later k d h = ⊎_elim at (λ (l : 0 < k). omega (arith, falls.down 0 k q.termination d l falls.start h)) (eq-or-lt_of_le zero-le)
+  none_later : (k d : ℕ) → tenors_before q k ≡ given d → d ≤ q.termination.day
+  none_later k d h = ⊎_elim at (λ (l : 0 < k). omega (arith, falls.down 0 k q.termination.day d l falls.start h)) (eq-or-lt_of_le zero-le)
     where
-      at : 0 ≡ k → d ≤ q.termination
-      at e = let s : q.termination ≡ d = ap day_or (sym falls.start ∙ ap (tenors_before q) e ∙ h) in omega arith
+      at : 0 ≡ k → d ≤ q.termination.day
+      at e = let s : q.termination.day ≡ d = ap day_or (sym falls.start ∙ ap (tenors_before q) e ∙ h) in omega arith
 
-  pub not_after : (d : ℕ) → OwedDate q d → d ≤ q.termination
+  pub not_after : (d : ℕ) → OwedDate q d → d ≤ q.termination.day
   not_after d (inl e) = omega (arith, p.order)
   not_after d (inr h) = none_later h.1.0 d h.1.1
 
   module _ (ds : List ℕ) (o : Owed q ds) where
-    pub starts : get_or ds 0 0 ≡ q.effective
-    starts = least_first ds q.effective o.ascends (o.all q.effective (inl refl)) (λ d h. not_before d (o.only d h))
+    pub starts : get_or ds 0 0 ≡ q.effective.day
+    starts = least_first ds q.effective.day o.ascends (o.all q.effective.day (inl refl)) (λ d h. not_before d (o.only d h))
 
-    pub ends : get_or ds (length ds - 1) 0 ≡ q.termination
-    ends = greatest_last ds q.termination o.ascends (o.all q.termination (inr (p.order, (0, falls.start)))) (λ d h. not_after d (o.only d h))
+    pub ends : get_or ds (length ds - 1) 0 ≡ q.termination.day
+    ends = greatest_last ds q.termination.day o.ascends (o.all q.termination.day (inr (p.order, (0, falls.start)))) (λ d h. not_after d (o.only d h))
 
     pub two_or_more : 2 ≤ length ds
     two_or_more = ⊎_elim (λ (h : 2 ≤ length ds). h) (λ (h : length ds < 2). absurd (no (omega arith))) (le_or_lt 2 (length ds))

@@ -32,8 +32,8 @@ pub passed : (q : Request) (closed : List ℕ) (dates flags : ℕ) → first_row
 unfolding dates_ok
 passed q closed dates flags h =
     let a = table.accepted q closed dates flags h in
-    let e = both (in_book q.effective) _ a.dates_hold in
-    let t = both (in_book q.termination) _ e.1 in
+    let e = both (in_book q.effective.day) _ a.dates_hold in
+    let t = both (in_book q.termination.day) _ e.1 in
     record {
       even = a.even;
       effective_in_book = e.0;
@@ -46,7 +46,7 @@ module _ (q : Request) (closed : List ℕ) (dates flags : ℕ) (p : Plain q) whe
   even_row : dates ≡ flags → not (eqb dates flags) ≡ false
   even_row h = rw (eq-eqb dates flags h)
 
-  dates_row : in_book q.effective ≡ true → in_book q.termination ≡ true → not (dates_ok q) ≡ false
+  dates_row : in_book q.effective.day ≡ true → in_book q.termination.day ≡ true → not (dates_ok q) ≡ false
   unfolding dates_ok anchor_ok
   dates_row e t = rw (e, t, p.no_first, p.no_penultimate)
 
@@ -74,12 +74,12 @@ module _ (q : Request) (closed : List ℕ) (dates flags : ℕ) (p : Plain q) whe
       (next _ _ _ (rw c.calendar_sound)
       (next _ _ _ (not_negative q.tenor.length p.positive)
       (next _ _ _ (rw c.tenor_short)
-      (next _ _ _ (range_row _ q.first _ p.no_first)
-      (next _ _ _ (imm_row _ q.first p.no_first)
-      (next _ _ _ (rule_row _ q.first p.no_first)
-      (next _ _ _ (range_row _ q.penultimate _ p.no_penultimate)
-      (next _ _ _ (imm_row _ q.penultimate p.no_penultimate)
-      (next _ _ _ (rule_row _ q.penultimate p.no_penultimate)
+      (next _ _ _ (range_row _ q.first.day _ p.no_first)
+      (next _ _ _ (imm_row _ q.first.day p.no_first)
+      (next _ _ _ (rule_row _ q.first.day p.no_first)
+      (next _ _ _ (range_row _ q.penultimate.day _ p.no_penultimate)
+      (next _ _ _ (imm_row _ q.penultimate.day p.no_penultimate)
+      (next _ _ _ (rule_row _ q.penultimate.day p.no_penultimate)
       (next _ _ _ (rw p.no_month_end)
       (next _ _ _ short_row no_rows))))))))))))
 

@@ -20,18 +20,18 @@ use Rattle.plain.specs.Laws.Walked.{some_units, line}
 
 -- ---- m can be taken, and one more passes: those two say that m is the most
 module _ (q : Request) (closed : List ℕ) (dates flags : ℕ) (p : Plain q) (c : Passes q closed dates flags) (m : ℕ) where
-  pub one_more_passes : Most q m → (d : ℕ) × (taken q (m + 1) ≡ given d) × (d < q.effective)
+  pub one_more_passes : Most q m → (d : ℕ) × (taken q (m + 1) ≡ given d) × (d < q.effective.day)
   one_more_passes w =
       let l = line q p closed dates flags c in
       let n = some_units q p in
-      (day_or (taken q (m + 1)), l.near m w.day (m + 1) w.can_be_taken w.not_passing (omega arith), passes (taken q) q.effective q.termination (tenor_count q) n (le_of_lt p.order) l m w (m + 1) (omega arith) (omega arith))
+      (day_or (taken q (m + 1)), l.near m w.day (m + 1) w.can_be_taken w.not_passing (omega arith), passes (taken q) q.effective.day q.termination.day (tenor_count q) n (le_of_lt p.order) l m w (m + 1) (omega arith) (omega arith))
 
-  pub most_if : (d d' : ℕ) → taken q m ≡ given d → q.effective ≤ d → taken q (m + 1) ≡ given d' → d' < q.effective → Most q m
+  pub most_if : (d d' : ℕ) → taken q m ≡ given d → q.effective.day ≤ d → taken q (m + 1) ≡ given d' → d' < q.effective.day → Most q m
   most_if d d' h i h' i' = record {
     day = d;
     can_be_taken = h;
     not_passing = i;
-    no_more = λ x z g o. brink (taken q) q.effective q.termination (tenor_count q) (some_units q p) (le_of_lt p.order) (line q p closed dates flags c) m d' x z h' i' g o;
+    no_more = λ x z g o. brink (taken q) q.effective.day q.termination.day (tenor_count q) (some_units q p) (le_of_lt p.order) (line q p closed dates flags c) m d' x z h' i' g o;
   }
 
 module _ (e t : ℕ) (from : in_book e ≡ true) (order : e ≤ t) (to : in_book t ≡ true) where
@@ -99,5 +99,5 @@ module _ (e t : ℕ) (from : in_book e ≡ true) (order : e ≤ t) (to : in_book
   most_by_lem Years = by_months _ refl
 
 -- so of a plain request
-pub most_sum : (q : Request) (closed : List ℕ) (dates flags : ℕ) → Plain q → Passes q closed dates flags → Most q (most_by q.tenor.unit q.effective q.termination)
-most_sum q closed dates flags p c = most_by_lem q.effective q.termination c.effective_in_book (le_of_lt p.order) c.termination_in_book q.tenor.unit
+pub most_sum : (q : Request) (closed : List ℕ) (dates flags : ℕ) → Plain q → Passes q closed dates flags → Most q (most_by q.tenor.unit q.effective.day q.termination.day)
+most_sum q closed dates flags p c = most_by_lem q.effective.day q.termination.day c.effective_in_book (le_of_lt p.order) c.termination_in_book q.tenor.unit

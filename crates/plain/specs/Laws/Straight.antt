@@ -27,9 +27,9 @@ record Tests (q : Request) : Type 0 where
   convention : q.convention ≡ Unadjusted
   terminal : q.terminal ≡ Unadjusted
   monthend : q.monthend ≡ false
-  first : q.first ≡ 0
-  penultimate : q.penultimate ≡ 0
-  order : ltb q.effective q.termination ≡ true
+  first : q.first.day ≡ 0
+  penultimate : q.penultimate.day ≡ 0
+  order : ltb q.effective.day q.termination.day ≡ true
 
 tests : (q : Request) → is_straight q ≡ true → Tests q
 unfolding is_straight
@@ -38,28 +38,28 @@ tests q h =
     let b = both (is_unadjusted q.convention) _ a.1 in
     let c = both (is_unadjusted q.terminal) _ b.1 in
     let d = both (not q.monthend) _ c.1 in
-    let e = both (eqb q.first 0) _ d.1 in
-    let f = both (eqb q.penultimate 0) _ e.1 in
+    let e = both (eqb q.first.day 0) _ d.1 in
+    let f = both (eqb q.penultimate.day 0) _ e.1 in
     record {
       positive = a.0;
       convention = unadjusted q.convention b.0;
       terminal = unadjusted q.terminal c.0;
       monthend = not-true q.monthend d.0;
-      first = eqb-true q.first 0 e.0;
-      penultimate = eqb-true q.penultimate 0 f.0;
+      first = eqb-true q.first.day 0 e.0;
+      penultimate = eqb-true q.penultimate.day 0 f.0;
       order = f.1;
     }
 
 pub straight_plain : (q : Request) → q.rule ≡ Backward → is_straight q ≡ true → Plain q
 straight_plain q r h =
     let t = tests q h in
-    record { backward = r; positive = t.positive; no_first = t.first; no_penultimate = t.penultimate; unadjusted = t.convention; unadjusted_last = t.terminal; no_month_end = t.monthend; order = ltb-true q.effective q.termination t.order }
+    record { backward = r; positive = t.positive; no_first = t.first; no_penultimate = t.penultimate; unadjusted = t.convention; unadjusted_last = t.terminal; no_month_end = t.monthend; order = ltb-true q.effective.day q.termination.day t.order }
 
 pub straight_forward : (q : Request) → q.rule ≡ Forward → is_straight q ≡ true → PlainForward q
 straight_forward q r h =
     let t = tests q h in
-    record { forward = r; positive = t.positive; no_first = t.first; no_penultimate = t.penultimate; unadjusted = t.convention; unadjusted_last = t.terminal; no_month_end = t.monthend; order = ltb-true q.effective q.termination t.order }
+    record { forward = r; positive = t.positive; no_first = t.first; no_penultimate = t.penultimate; unadjusted = t.convention; unadjusted_last = t.terminal; no_month_end = t.monthend; order = ltb-true q.effective.day q.termination.day t.order }
 
 pub plain_straight : (q : Request) → Plain q → is_straight q ≡ true
 unfolding is_straight is_unadjusted
-plain_straight q p = rw (p.positive, p.unadjusted, p.unadjusted_last, p.no_month_end, eq-eqb q.first 0 p.no_first, eq-eqb q.penultimate 0 p.no_penultimate, lt-ltb q.effective q.termination p.order)
+plain_straight q p = rw (p.positive, p.unadjusted, p.unadjusted_last, p.no_month_end, eq-eqb q.first.day 0 p.no_first, eq-eqb q.penultimate.day 0 p.no_penultimate, lt-ltb q.effective.day q.termination.day p.order)

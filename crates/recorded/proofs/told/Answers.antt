@@ -1,6 +1,5 @@
-use Rattle.std.proofs.Common.{ap, refl, rules, ◌∙◌}
+use Rattle.std.proofs.Common.{ap, rules}
 use Rattle.refusal.specs.Answer.{answered_by}
-use Rattle.steps.specs.Build.{refused_built}
 use Rattle.recorded.proofs.Recording.{reported_built, reported_refused, reported_short}
 use Rattle.recorded.proofs.told.Goals as goal
 

@@ -226,15 +226,15 @@ module _ (q : Request) (closed : List ℕ) (can : sayable q (length closed) ≡ 
   unfolding request_from body_or onto fields_in pick date_of
   request_back =
       λ i. record {
-        effective = four_back q.effective i;
-        termination = four_back q.termination i;
+        effective = record { day = four_back q.effective.day i };
+        termination = record { day = four_back q.termination.day i };
         tenor = tenor_back i;
         rule = rule_back q.rule i;
         convention = convention_back q.convention i;
         terminal = convention_back q.terminal i;
         monthend = bit_back q.monthend i;
-        first = four_back q.first i;
-        penultimate = four_back q.penultimate i;
+        first = record { day = four_back q.first.day i };
+        penultimate = record { day = four_back q.penultimate.day i };
         mask = q.mask;
       }
 

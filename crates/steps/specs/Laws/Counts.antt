@@ -94,7 +94,7 @@ opening_filled true q closed room m h =
     let t = then_stepped _ _ m s.to in
     let u = then_stepped _ _ m t.to in
     put_filled room s.value 1 u.value m (earlier_even _ room s.value u.value u.from) u.to
-opening_filled false q closed room m h = put_filled room q.effective 1 nothing m refl h
+opening_filled false q closed room m h = put_filled room q.effective.day 1 nothing m refl h
 
 seed_filled : (room day mark : ℕ) (l : Lists) (o : Opened) → Even l → put_seed room day mark l ≡ given o → Filled room o.lists
 unfolding put_seed then
@@ -123,7 +123,7 @@ unfolding second put_first
 second_filled zero q closed room l o f h = twentieth_filled (on_twentieths q.rule) q room l o f h
 second_filled (suc n) q closed room l o f h =
     let s = then_stepped _ _ o (need_given ROOM (has_room_in room l) _ o h).1 in
-    seed_filled room q.first _ l o f.even s.to
+    seed_filled room q.first.day _ l o f.even s.to
 
 closing_filled : (q : Request) (closed : List ℕ) (room : ℕ) (l m : Lists) → Filled room l → closing q closed room l ≡ given m → Filled room m
 unfolding closing put_closing
@@ -165,14 +165,14 @@ module _ (q : Request) (closed : List ℕ) (room : ℕ) where
   zero_flagged m h =
       let s = then_stepped _ _ m h in
       let t = then_stepped _ _ s.value s.from in
-      let f = put_filled room q.termination 1 nothing t.value refl t.from in
-      same_made room _ m (back_flagged room s.value (put_filled room q.effective 1 t.value s.value f.even t.to)) s.to
+      let f = put_filled room q.termination.day 1 nothing t.value refl t.from in
+      same_made room _ m (back_flagged room s.value (put_filled room q.effective.day 1 t.value s.value f.even t.to)) s.to
 
   begun_filled : (l : Lists) → begun q room ≡ given l → Filled room l
   unfolding begun
   begun_filled l h =
       let s = then_stepped _ _ l h in
-      penultimate_filled _ _ room q.penultimate s.value l (put_filled room q.termination 1 nothing s.value refl s.from) s.to
+      penultimate_filled _ _ room q.penultimate.day s.value l (put_filled room q.termination.day 1 nothing s.value refl s.from) s.to
 
   loop_filled : (back : Bool) (seed exit : ℕ) (l : Lists) (w : Walk) → Filled room l → candidates q closed room back seed exit l ≡ given w → Filled room w.lists
   unfolding candidates
@@ -182,7 +182,7 @@ module _ (q : Request) (closed : List ℕ) (room : ℕ) where
   unfolding ended
   ended_filled l m f h =
       let s = then_stepped _ _ m h in
-      new_filled q.mask closed q.convention room _ _ 0 s.value m (anchor_filled q.mask closed q.convention room q.first l s.value f s.from) s.to
+      new_filled q.mask closed q.convention room _ _ 0 s.value m (anchor_filled q.mask closed q.convention room q.first.day l s.value f s.from) s.to
 
   backward_flagged : (m : Made) → backward q closed room ≡ given m → Flagged room m.dates m.flags
   unfolding backward backward_from backward_end
@@ -197,13 +197,13 @@ module _ (q : Request) (closed : List ℕ) (room : ℕ) where
   unfolding opened opening
   opened_filled o h =
       let s = then_stepped _ _ o h in
-      second_filled q.first q closed room s.value o (opening_filled (is_credit q.rule) q closed room s.value s.from) s.to
+      second_filled q.first.day q closed room s.value o (opening_filled (is_credit q.rule) q closed room s.value s.from) s.to
 
   shut_filled : (l m : Lists) → Filled room l → shut q closed room l ≡ given m → Filled room m
   unfolding shut
   shut_filled l m f h =
       let s = then_stepped _ _ m h in
-      closing_filled q closed room s.value m (anchor_filled q.mask closed q.convention room q.penultimate l s.value f s.from) s.to
+      closing_filled q closed room s.value m (anchor_filled q.mask closed q.convention room q.penultimate.day l s.value f s.from) s.to
 
   forward_flagged : (m : Made) → forward q closed room ≡ given m → Flagged room m.dates m.flags
   unfolding forward forward_from forward_end

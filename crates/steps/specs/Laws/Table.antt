@@ -116,12 +116,12 @@ pub record PassedChecks (q : Request) (closed : List ℕ) (dates flags : ℕ) : 
   pub closed_holds : closed_ok closed ≡ true
   pub not_negative : is_negative q.tenor.length ≡ false
   pub tenor_holds : tenor_ok (nat_abs q.tenor.length) q.tenor.unit ≡ true
-  pub first_in_range : out_of_range (rule_in_force q) q.first (first_outside q) ≡ false
-  pub first_imm : not_imm (rule_in_force q) q.first ≡ false
-  pub first_allowed : wrong_rule (rule_in_force q) q.first ≡ false
-  pub last_in_range : out_of_range (rule_in_force q) q.penultimate (last_outside q) ≡ false
-  pub last_imm : not_imm (rule_in_force q) q.penultimate ≡ false
-  pub last_allowed : wrong_rule (rule_in_force q) q.penultimate ≡ false
+  pub first_in_range : out_of_range (rule_in_force q) q.first.day (first_outside q) ≡ false
+  pub first_imm : not_imm (rule_in_force q) q.first.day ≡ false
+  pub first_allowed : wrong_rule (rule_in_force q) q.first.day ≡ false
+  pub last_in_range : out_of_range (rule_in_force q) q.penultimate.day (last_outside q) ≡ false
+  pub last_imm : not_imm (rule_in_force q) q.penultimate.day ≡ false
+  pub last_allowed : wrong_rule (rule_in_force q) q.penultimate.day ≡ false
   pub monthend_allowed_lem : (q.monthend && not (monthend_allowed (rule_in_force q))) ≡ false
   pub not_short : short_end q (rule_in_force q) ≡ false
 

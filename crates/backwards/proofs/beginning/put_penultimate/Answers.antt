@@ -12,4 +12,4 @@ pub returns-in_err-next : goal.returns-in_err-next
 returns-in_err-next c = record { run = λ p. penultimate_on _ _ p _ c.if-anchor-eq0.false c.if-room-n.false (dated_stops _ _ _ _ c.candidate.ensures c.in_err-next.was _ c.from_residual.ensures) }
 
 pub returns : goal.returns
-returns c = record { run = λ p. penultimate_on _ _ p _ c.if-anchor-eq0.false c.if-room-n.false (dated_on _ _ _ _ _ c.candidate.ensures c.in_ok-next.was c.next.view_is (flagged _ _ _ _ _ c.same_flag-mark.ensures (c.put.ensures.run p.part))) }
+returns c = record { run = λ p. penultimate_on _ _ p _ c.if-anchor-eq0.false c.if-room-n.false (dated_on _ _ _ _ c.candidate.ensures c.in_ok-next.was (flagged _ _ _ _ _ c.same_flag-mark.ensures (c.put.ensures.run p.part))) }

@@ -1,7 +1,6 @@
-use Rattle.std.specs.Prelude.{Ok}
-use Rattle.std.proofs.Common.{◌≡◌, ◌+◌, ◌-◌, ap, arith, sym, subst, ℕ, ◌∙◌}
-use Rattle.refusal.specs.Laws.Answers.{handed_on}
+use Rattle.std.proofs.Common.{◌≡◌, ◌+◌, ◌-◌, arith, subst, ℕ, ◌∙◌}
 use Rattle.calendar.proofs.Ways.{Steps, steps_end, steps_next, steps_refused, steps_start}
+use Rattle.date.specs.Laws.Made.{day_handed_on}
 use Rattle.calendar.proofs.advances.step_open.Goals as goal
 
 pub loop-init : goal.loop-init
@@ -13,13 +12,13 @@ loop-init c =
 pub loop-preserved : goal.loop-preserved
 loop-preserved c =
     let a = c.args in
-    let next = steps_next c.loop.invariant (omega arith) {next = c.neighbour.result} c.neighbour.ensures {x = c.at.inside.day} (c.in_ok-at.was ∙ ap Ok (sym c.at.view_is)) in
+    let next = steps_next c.loop.invariant (omega arith) {next = c.neighbour.result} c.neighbour.ensures {x = c.in_ok-at.field-0} c.in_ok-at.was in
     let e : a.size - c.loop.counter - 1 ≡ a.size - (c.loop.counter + 1) = omega arith in
-    subst (λ (left : ℕ). Steps a.mask a.closed.now a.back a.size a.day left c.at.inside.day) e next
+    subst (λ (left : ℕ). Steps a.mask a.closed.now a.back a.size a.day left c.in_ok-at.field-0.day) e next
 
 pub returns-in_err-at : goal.returns-in_err-at
 returns-in_err-at c =
-    λ ok. handed_on _ _ c.from_residual.ensures
+    λ ok. day_handed_on _ _ c.from_residual.ensures
     ∙ steps_refused c.loop.invariant (omega arith) {next = c.neighbour.result} c.neighbour.ensures _ c.in_err-at.was ok
 
 pub returns : goal.returns

@@ -16,5 +16,8 @@ days-preserved c = search ahead_rules
 pub scan-preserved : goal.scan-preserved
 scan-preserved c = search ahead_rules
 
-pub returns : goal.returns
-returns c = search ahead_rules
+pub returns-after-scan : goal.returns-after-scan
+returns-after-scan c = search ahead_rules
+
+pub returns-then-here-x : goal.returns-then-here-x
+returns-then-here-x c = search ahead_rules

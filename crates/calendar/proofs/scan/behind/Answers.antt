@@ -1,6 +1,5 @@
 use Rattle.calendar.proofs.Days.{behind_rules}
 use Rattle.calendar.proofs.scan.behind.Goals as goal
-use Rattle.calendar.proofs.scan.behind.Goals.{else-scan-test, then-scan-test+then-x-here}
 
 pub days-init : goal.days-init
 days-init c = search behind_rules
@@ -17,7 +16,8 @@ days-preserved c = search behind_rules
 pub scan-preserved : goal.scan-preserved
 scan-preserved c = search behind_rules
 
-pub returns : goal.returns
-returns c =
-    elim c.scan-test.branch
-    [ else-scan-test w ↦ rw w.open-is (search behind_rules) | then-scan-test+then-x-here w ↦ rw w.open-is (search behind_rules) ]
+pub returns-after-scan : goal.returns-after-scan
+returns-after-scan c = search behind_rules
+
+pub returns-then-x-here : goal.returns-then-x-here
+returns-then-x-here c = search behind_rules

@@ -5,4 +5,4 @@ pub returns-then-front_serves : goal.returns-then-front_serves
 returns-then-front_serves c = λ ok f. served _ _ _ _ (c.front_serves.ensures c.if-front_serves.true) f
 
 pub returns : goal.returns
-returns c = rw (← c.q.view_is) (λ ok f. c.adjusted.ensures ok)
+returns c = λ ok f. c.adjusted.ensures ok

@@ -3,10 +3,10 @@ use Rattle.working.specs.Dates.{dated_on, dated_stops}
 use Rattle.forwards.proofs.closing.put_closing.Goals as goal
 
 pub returns-in_err-twentieth : goal.returns-in_err-twentieth
-returns-in_err-twentieth c = rw (← c.q.view_is, ← c.q-inside.view_is) (record { run = λ p. closing_twentieth _ _ _ _ c.on_twentieths.ensures c.if-on_twentieths.true (dated_stops _ _ _ _ c.next.ensures c.in_err-twentieth.was _ c.from_residual.ensures) })
+returns-in_err-twentieth c = record { run = λ p. closing_twentieth _ _ _ _ c.on_twentieths.ensures c.if-on_twentieths.true (dated_stops _ _ _ _ c.next.ensures c.in_err-twentieth.was _ c.from_residual.ensures) }
 
 pub returns-then-on_twentieths : goal.returns-then-on_twentieths
-returns-then-on_twentieths c = rw (← c.q.view_is, ← c.q-inside.view_is) (record { run = λ p. closing_twentieth _ _ _ _ c.on_twentieths.ensures c.if-on_twentieths.true (dated_on _ _ _ _ _ c.next.ensures c.in_ok-twentieth.was c.twentieth.view_is (c.put.ensures.run p)) })
+returns-then-on_twentieths c = record { run = λ p. closing_twentieth _ _ _ _ c.on_twentieths.ensures c.if-on_twentieths.true (dated_on _ _ _ _ c.next.ensures c.in_ok-twentieth.was (c.put.ensures.run p)) }
 
 pub returns : goal.returns
-returns c = rw (← c.q.view_is, ← c.q-inside.view_is) (record { run = λ p. closing_plain _ _ _ _ c.on_twentieths.ensures c.if-on_twentieths.false (c.put-2.ensures.run p) })
+returns c = record { run = λ p. closing_plain _ _ _ _ c.on_twentieths.ensures c.if-on_twentieths.false (c.put-2.ensures.run p) }

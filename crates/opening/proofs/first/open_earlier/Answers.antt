@@ -9,4 +9,4 @@ returns-in_err-earlier c = record { run = λ p. regrouped _ _ _ (dated_stops _ _
 
 pub returns : goal.returns
 unfolding put_earlier shifted
-returns c = record { run = λ p. regrouped _ _ _ (dated_on _ _ _ _ _ c.shift_by.ensures c.in_ok-earlier.was c.earlier.view_is (c.put_two.ensures.run p)) }
+returns c = record { run = λ p. regrouped _ _ _ (dated_on _ _ _ _ c.shift_by.ensures c.in_ok-earlier.was (c.put_two.ensures.run p)) }

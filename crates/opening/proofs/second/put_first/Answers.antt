@@ -13,8 +13,6 @@ returns-in_err-next c =
 
 pub returns : goal.returns
 returns c =
-    let tenor = rw (← c.q.view_is, ← c.q-inside.view_is) at c.tenor_on.ensures in
-    rw (← c.q.view_is, ← c.q-inside.view_is)
-    (record {
-      run = λ b. first_on _ b _ c.if-room-n.false c.newest.ensures (dated_on _ _ _ _ _ (tenor b.calendar) c.in_ok-next.was c.next.view_is (flagged _ _ _ _ _ c.same_flag.ensures (c.put_seed.ensures.run b.part)));
-    })
+    record {
+      run = λ b. first_on _ b _ c.if-room-n.false c.newest.ensures (dated_on _ _ _ _ (c.tenor_on.ensures b.calendar) c.in_ok-next.was (flagged _ _ _ _ _ c.same_flag.ensures (c.put_seed.ensures.run b.part)));
+    }

@@ -6,6 +6,5 @@ use Rattle.opening.proofs.second.tenor_on.Goals as goal
 
 pub returns : goal.returns
 returns c =
-    rw (← c.q.view_is)
-    (λ ok. took_advanced _ _ _ _ _ _ _ _ _ _ c.date_of.ensures (c.advance.ensures ok)
-    ∙ tenor_is _ _ _ _ (c.size-size.ensures ∙ ap nat_abs (same32 c.q.inside.tenor.length (record { sfits = search rules }))))
+    λ ok. took_advanced _ _ _ _ _ _ _ _ _ _ c.date_of.ensures (c.advance.ensures ok)
+    ∙ tenor_is _ _ _ _ (c.size-size.ensures ∙ ap nat_abs (same32 c.args.q.now.tenor.length (record { sfits = search rules })))

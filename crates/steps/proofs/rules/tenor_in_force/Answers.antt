@@ -1,6 +1,5 @@
-use Rattle.std.proofs.Common.{false, refl, true, ap, ◌∙◌}
+use Rattle.std.proofs.Common.{false, refl, true}
 use Rattle.steps.proofs.Ways.{tenor_by}
-use Rattle.steps.specs.declared.Request.{Request}
 use Rattle.steps.specs.Rules.{tenor_under}
 use Rattle.steps.proofs.rules.tenor_in_force.Goals as goal
 
@@ -10,6 +9,4 @@ returns-then-is_zero c = tenor_by _ _ _ c.rule_in_force.ensures c.is_zero.ensure
 
 pub returns : goal.returns
 unfolding tenor_under
-returns c =
-    ap (λ (q : Request). q.tenor) c.q.view_is
-    ∙ tenor_by _ _ _ c.rule_in_force.ensures c.is_zero.ensures false _ c.if-is_zero.false refl
+returns c = tenor_by _ _ _ c.rule_in_force.ensures c.is_zero.ensures false _ c.if-is_zero.false refl
