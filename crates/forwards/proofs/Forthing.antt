@@ -26,7 +26,7 @@ use Rattle.steps.specs.Generate.{Lists, made_forth, newest, put, put_anchor, clo
 use Rattle.steps.specs.Laws.Grows.{closing_grows}
 use Rattle.working.specs.Step.{Gives, gives, refuses, was_given, was_kept, step_given, step_refused, step_kept}
 use Rattle.working.specs.Part.{Work, Part, held, last_put, last_day, Fills, fills, begun_placed}
-use Rattle.working.specs.Dates.{day_stops, day_on, dates}
+use Rattle.working.specs.Dates.{value_stops, value_on, dates}
 use Rattle.working.specs.Held.{newest_read}
 use Rattle.working.specs.declared.Tip.{Tip}
 use Rattle.working.specs.Turning.{Front, Ahead}
@@ -80,18 +80,18 @@ module _ (q : Request) (closed : List ℕ) {room : ℕ} (tip : Tip) {w : Work} (
   closing_at g = rw here at g
 
   pub close_stop : (k : Refusal) → kept ≡ Err k → (r : Result Closing Refusal) → IsErr r × IsErrAnd r (λ j. j ≡ k) → Then r w
-  close_stop k e r h = closing_at (day_stops _ _ kept k was e r h)
+  close_stop k e r h = closing_at (value_stops _ _ kept k was e r h)
 
   module _ (a : ℕ) (e : kept ≡ Ok a) (moved : Result ℕ Refusal) (m : closed_ok closed ≡ true → answered moved ≡ adjusted q.mask closed q.terminal q.termination.day) where
     then_paid : answered moved ≡ adjusted q.mask closed q.terminal q.termination.day
     then_paid = m p.begun.calendar
 
     pub close_closed : (k : Refusal) → moved ≡ Err k → (r : Result Closing Refusal) → IsErr r × IsErrAnd r (λ j. j ≡ k) → Then r w
-    close_closed k t r h = closing_at (day_on _ _ kept a a was e refl (day_stops _ _ moved k then_paid t r h))
+    close_closed k t r h = closing_at (value_on _ _ kept a was e (value_stops _ _ moved k then_paid t r h))
 
     module _ (b : ℕ) (h : moved ≡ Ok b) where
       by_test : {C : Type 0} {view : C → Lists} {Keeps : C → Type 0} {r : Answer C} → Gives view Keeps (put_closing (eqb a b) q room (held false tip.n w)) r → Gives view Keeps (closing q closed room (held false tip.n w)) r
-      by_test g = closing_at (day_on _ _ kept a a was e refl (day_on _ _ moved b b then_paid h refl g))
+      by_test g = closing_at (value_on _ _ kept a was e (value_on _ _ moved b then_paid h g))
 
       pub close_same : a ≡ b → Then (Ok (record { n = tip.n; last = record { day = day; paid = a } })) w
       close_same s =

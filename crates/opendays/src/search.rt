@@ -1,5 +1,5 @@
 // The n-th open day after a day: the year by the counts, then on by the week, and over the closed dates on the way.
-ghost use Rattle.std.specs.Prelude.{◌≡◌, true, ◌+◌, ◌-◌, ◌*◌, ◌≤◌, ◌<◌, length};
+ghost use Rattle.std.specs.Prelude.{◌≡◌, true, ◌+◌, ◌-◌, ◌*◌, ◌≤◌, ◌<◌};
 ghost use Rattle.date.specs.Date.{dated, in_book};
 ghost use Rattle.opendays.specs.Count.{tally, weekly_open, nth_open};
 ghost use Rattle.opendays.specs.Index.{nth_by};

@@ -1,10 +1,10 @@
 // The candidates of a build: whole tenors before or after a fixed seed.
 ghost use Rattle.std.specs.Prelude.{◌≡◌, true, false};
+ghost use Rattle.date.specs.Date.{dated};
 ghost use Rattle.calendar.specs.Open.{closed_ok};
 ghost use Rattle.steps.specs.Candidates.{candidate, is_past, unless_past};
 ghost use Rattle.working.specs.Turning.{Knows, Compared, turn_on};
 ghost use Rattle.working.specs.Paces.{pace};
-ghost use Rattle.date.specs.Date.{dated};
 
 use crate::{Adjusting, Course};
 use calendar::search;

@@ -9,11 +9,10 @@ use Rattle.std.specs.Int.{w8, w32, w64}
 use Rattle.std.proofs.Math.Facts.{to_z_pos}
 use Rattle.refusal.specs.Answer.{Answer, given, refused, answered, answered_by, need, then, ROOM}
 use Rattle.refusal.specs.declared.Refusal.{Refusal}
-use Rattle.refusal.specs.Refusals.{number_of}
 use Rattle.refusal.specs.Laws.Answers.{then_given, then_refused}
 use Rattle.period.specs.Laws.Signed.{same32}
 use Rattle.calendar.specs.declared.Moved.{Moved}
-use Rattle.calendar.specs.Moves.{moved, moved_by}
+use Rattle.calendar.specs.Moves.{moved_by}
 use Rattle.date.specs.declared.Date.{Date}
 use Rattle.date.specs.Date.{dated_by}
 use Rattle.coming.specs.declared.Coming.{Coming}
@@ -86,16 +85,13 @@ module _ {E : Type 0} (number : E → ℕ) where
   move_placed list n true (Err e) = refl
   move_placed list n false d = refl
 
-  pub move_by : {r : ℤ} {list list' : List ℤ} (d : Result Moved E) → CountPlace (λ m. m.date.day) (λ m. m.days) (answered_by number d) r list list' → MovePlace (moved_by number d) r list list'
+  pub move_as : {r : ℤ} {list list' : List ℤ} (d : Result Moved E) → CountPlace (λ m. m.date.day) (λ m. m.days) (answered_by number d) r list list' → MovePlace (moved_by number d) r list list'
   unfolding with_place
-  move_by {list = list} d p =
+  move_as {list = list} d p =
       record {
         answer = p.answer ∙ move_number ROOM _ d;
         list_after_lem = p.list_after_lem ∙ move_placed list ROOM _ d;
       }
-
-pub move_as : {r : ℤ} {list list' : List ℤ} (d : Result Moved Refusal) → CountPlace (λ m. m.date.day) (λ m. m.days) (answered d) r list list' → MovePlace (moved d) r list list'
-move_as d p = move_by number_of d p
 
 -- ---- what was written of an answer's name
 pub same_name : (z : ℤ) → SFits w64 z → name_of (to_z w64 (of_z w64 z)) ≡ name_of z
